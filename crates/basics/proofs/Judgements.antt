@@ -1,56 +1,56 @@
 -- What a judgement tells of the outcome that it is of. Assumes nothing.
+use Rattle.std.specs.Prelude.{Result, Ok, Err, IsErrAnd}
+use Rattle.std.proofs.lemmas.Result.{err_from_is_err_and}
 use Prim.Native.Nat.{ℕ}
-use mathlib.Core.Path.{◌≡◌, refl, ap}
+use mathlib.Core.Path.{◌≡◌, refl, ap, subst, ◌∙◌}
 use native.Mathlib.Omega.{arith}
 use Rattle.model.specs.Rules.Outcome.{Outcome, accepted, refused, ◌▷◌}
 use Rattle.model.specs.declared.Fault.{Fault}
 use Rattle.model.proofs.Basics.Outcomes.{accepted-then, refused-then}
 use Rattle.basics.specs.Judgement.{judgement_of, Answers}
-use Rattle.basics.specs.declared.Judged.{Judged}
-use Rattle.basics.specs.declared.Judged.TheVariants as Judged
 
-pub judgement-fine : (o : Outcome (Unit {0})) (j : Judged) → j ≡ judgement_of o → j ≡ Judged.Fine → o ≡ accepted tt
+pub judgement-fine : (o : Outcome (Unit {0})) (j : Result (Unit {0}) Fault) → j ≡ judgement_of o → j ≡ Ok tt → o ≡ accepted tt
 unfolding judgement_of
 judgement-fine (accepted tt) j h e = refl
 judgement-fine (refused f) j h e = let z : ◌≡◌ {A = ℕ} 0 1 = cc in absurd (omega arith)
 
-pub judgement-refused : (o : Outcome (Unit {0})) (j : Judged) (f : Fault) → j ≡ judgement_of o → j ≡ Judged.Refused f →
+pub judgement-refused : (o : Outcome (Unit {0})) (j : Result (Unit {0}) Fault) (f : Fault) → j ≡ judgement_of o → j ≡ Err f →
     o ≡ refused f
 unfolding judgement_of
 judgement-refused (accepted a) j f h e = let z : ◌≡◌ {A = ℕ} 0 1 = cc in absurd (omega arith)
 judgement-refused (refused g) j f h e = let same : g ≡ f = cc in ap refused same
 
-fine≢refused : (j : Judged) (f : Fault) → j ≡ Judged.Fine → j ≡ Judged.Refused f → ⊥
-fine≢refused j f p q = let z : ◌≡◌ {A = ℕ} 0 1 = cc in omega arith
+-- The refusal that a `?` hands on.
+pub handed-on : {B : Type 0} {f : Fault} (r : Result B Fault) → IsErrAnd r (λ g. g ≡ f) → r ≡ Err f
+handed-on r h = let p = err_from_is_err_and r h in p.1 ∙ ap Err p.2
 
-module _ {A : Type 0} (Q : A → Type 0) where
-  pub answers-fine : (o : Outcome A) (j : Judged) → Answers Q o j → j ≡ Judged.Fine → (a : A) × (o ≡ accepted a) × Q a
-  unfolding Answers
-  answers-fine (accepted a) j h e = (a, refl, h.1)
-  answers-fine (refused f) j h e = absurd (fine≢refused j f e h)
+ok≢err : {B : Type 0} (r : Result B Fault) (b : B) (f : Fault) → r ≡ Ok b → r ≡ Err f → ⊥
+ok≢err r b f p q = let z : ◌≡◌ {A = ℕ} 0 1 = cc in omega arith
 
-  pub answers-refused : (o : Outcome A) (j : Judged) (f : Fault) → Answers Q o j → j ≡ Judged.Refused f → o ≡ refused f
+module _ {A B : Type 0} (Q : A → B → Type 0) where
+  pub answers-ok : (o : Outcome A) (r : Result B Fault) (b : B) → Answers Q o r → r ≡ Ok b → (a : A) × (o ≡ accepted a) × Q a b
   unfolding Answers
-  answers-refused (accepted a) j f h e = absurd (fine≢refused j f h.0 e)
-  answers-refused (refused g) j f h e = let same : g ≡ f = cc in ap refused same
+  answers-ok (accepted a) r b h e = let same : h.0 ≡ b = cc h.1 in (a, refl, subst (Q a) same h.2)
+  answers-ok (refused f) r b h e = absurd (ok≢err r b f e h)
+
+  pub answers-refused : (o : Outcome A) (r : Result B Fault) (f : Fault) → Answers Q o r → r ≡ Err f → o ≡ refused f
+  unfolding Answers
+  answers-refused (accepted a) r f h e = absurd (ok≢err r h.0 f h.1 e)
+  answers-refused (refused g) r f h e = let same : g ≡ f = cc in ap refused same
 
   -- A chain of steps: one that is passed, one that is refused, and the last.
-  module _ {B : Type 0} (o : Outcome B) (j : Judged) where
-    pub answers-then : (next : B → Outcome A) (b : B) → o ≡ accepted b → Answers Q (next b) j → Answers Q (o ▷ next) j
-    answers-then next b e h = rw (accepted-then o next b e) h
+  module _ {C : Type 0} (o : Outcome C) (r : Result B Fault) where
+    pub answers-then : (next : C → Outcome A) (c : C) → o ≡ accepted c → Answers Q (next c) r → Answers Q (o ▷ next) r
+    answers-then next c e h = rw (accepted-then o next c e) h
 
-    pub answers-stop : (next : B → Outcome A) (f : Fault) → o ≡ refused f → j ≡ Judged.Refused f → Answers Q (o ▷ next) j
+    pub answers-stop : (next : C → Outcome A) (f : Fault) → o ≡ refused f → r ≡ Err f → Answers Q (o ▷ next) r
     unfolding Answers
     answers-stop next f e h = rw (refused-then o next f e) h
 
-  pub answers-last : {B : Type 0} (o : Outcome B) (j : Judged) (a : B → A) → Answers (λ x. Q (a x)) o j →
-      Answers Q (o ▷ λ x. accepted (a x)) j
-  unfolding Answers ◌▷◌
-  answers-last (accepted x) j a h = h
-  answers-last (refused f) j a h = h
+  pub answers-gives : (o : Outcome A) (r : Result B Fault) (f : Fault) → o ≡ refused f → r ≡ Err f → Answers Q o r
+  unfolding Answers
+  answers-gives o r f e h = rw e h
 
-pub judgement-answers : (Q : Unit {0} → Type 0) (o : Outcome (Unit {0})) (j : Judged) → j ≡ judgement_of o →
-    (o ≡ accepted tt → Q tt) → Answers Q o j
-unfolding Answers judgement_of
-judgement-answers Q (accepted tt) j e h = (e, h refl)
-judgement-answers Q (refused f) j e h = e
+  pub answers-accepted : (o : Outcome A) (r : Result B Fault) (a : A) (b : B) → o ≡ accepted a → r ≡ Ok b → Q a b → Answers Q o r
+  unfolding Answers
+  answers-accepted o r a b e h q = rw e (b, h, q)

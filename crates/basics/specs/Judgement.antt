@@ -1,14 +1,13 @@
 -- The judgement of a check, from the outcome of its definition.
-use Rattle.std.specs.Prelude.{◌≡◌}
+use Rattle.std.specs.Prelude.{Result, Ok, Err, ◌≡◌}
 use Rattle.model.specs.Rules.Outcome.{Outcome, accepted, refused}
-use Rattle.basics.specs.declared.Judged.{Judged}
-use Rattle.basics.specs.declared.Judged.TheVariants as Judged
+use Rattle.model.specs.declared.Fault.{Fault}
 
-unfoldable pub judgement_of : Outcome (Unit {0}) → Judged
-judgement_of (accepted a) = Judged.Fine
-judgement_of (refused f) = Judged.Refused f
+unfoldable pub judgement_of : Outcome (Unit {0}) → Result (Unit {0}) Fault
+judgement_of (accepted a) = Ok tt
+judgement_of (refused f) = Err f
 
--- The judgement is the definition's refusal, or it is fine and Q holds of the definition's value.
-unfoldable pub Answers : {A : Type 0} → (A → Type 0) → Outcome A → Judged → Type 0
-Answers Q (accepted a) j = (j ≡ Judged.Fine) × Q a
-Answers Q (refused f) j = j ≡ Judged.Refused f
+-- The answer is the definition's refusal, or a value that Q relates to the definition's.
+unfoldable pub Answers : {A B : Type 0} → (A → B → Type 0) → Outcome A → Result B Fault → Type 0
+Answers {B = B} Q (accepted a) r = (b : B) × (r ≡ Ok b) × Q a b
+Answers Q (refused f) r = r ≡ Err f

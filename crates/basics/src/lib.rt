@@ -1,49 +1,23 @@
-// What several crates share: numbers by their width, a choice, and what a check answers.
+// What several crates share: numbers by their width, a choice, and the refusal.
 #![tactic(auto)]
 
-ghost use Rattle.std.specs.Prelude.{cond, ◌≡◌, ◌+◌, ◌<◌, leb};
-ghost use Rattle.model.specs.declared.Fault.{Fault};
+ghost use Rattle.std.specs.Prelude.{Err, cond, ◌≡◌, ◌+◌, ◌<◌, leb};
+ghost use Rattle.model.specs.Rules.Refusal.{number_of};
 
-use model::{Fault, Yielded};
+use model::{Fault, Refusal};
 
-// What a check answers.
-#[derive(Clone, Copy)]
-pub enum Judged {
-    Fine,
-    Refused(Fault),
+// The refusal of a number at a place, whatever was to be answered.
+pub fn refuse_number<T>(number: u8, place: usize) -> Result<T, Fault>
+    ensures { result ≡ Err (record { number = number; place = place }) }
+{
+    Err(Fault { number, place })
 }
 
-// The refusal of a number at a place.
-pub fn refuse(number: u8, place: usize) -> Judged
-    ensures { result ≡ Judged.Refused (record { number = number; place = place }) }
+// The same of a refusal by its name.
+pub fn refuse<T>(refusal: Refusal, place: usize) -> Result<T, Fault>
+    ensures { result ≡ Err (record { number = number_of refusal; place = place }) }
 {
-    Judged::Refused(Fault {
-        number: number,
-        place: place,
-    })
-}
-
-// The refusal of a number at a place, where a number is to be yielded.
-pub fn refuse_number(number: u8, place: usize) -> Yielded
-    ensures { result ≡ Yielded.Refused (record { number = number; place = place }) }
-{
-    Yielded::Refused(Fault {
-        number: number,
-        place: place,
-    })
-}
-
-// The refusal that a check has given, where a number is to be yielded. A check that is fine is none: no caller asks.
-pub fn refused(judged: Judged) -> Yielded
-    ensures { (f : Fault) → judged ≡ Judged.Refused f → result ≡ Yielded.Refused f }
-{
-    match judged {
-        Judged::Fine => Yielded::Refused(Fault {
-            number: 0,
-            place: 0,
-        }),
-        Judged::Refused(fault) => Yielded::Refused(fault),
-    }
+    refuse_number(refusal as u8, place)
 }
 
 // A byte as a number.

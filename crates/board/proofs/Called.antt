@@ -1,4 +1,5 @@
 -- What the board's calls answer and leave, by their tests. Assumes nothing.
+use Rattle.std.specs.Prelude.{Option}
 use Prim.Native.Nat.{ℕ}
 use mathlib.Core.Bool.{true, false}
 use mathlib.Core.List.{List, []}
@@ -8,7 +9,6 @@ use lib.IntN.{ℤ}
 use lib.ListN.{length}
 use Rattle.model.specs.Rules.Outcome.{accepted, refused, ◌▷◌, provided}
 use Rattle.model.specs.declared.Fault.{Fault}
-use Rattle.model.specs.declared.Found.{Found}
 use Rattle.board.specs.Board.{
   place_at,
   place_words,
@@ -81,7 +81,7 @@ module _ (b : Board) (images : List ℕ) (state samples : List ℤ) where
   unfolding turn_of provided ◌▷◌
   turn-samples p q = rw (p, q)
 
-  pub turn-done : leb 260 (length state) ≡ true → leb 256 (length samples) ≡ true → (d : Found) → next_due b ≡ d →
+  pub turn-done : leb 260 (length state) ≡ true → leb 256 (length samples) ≡ true → (d : Option ℕ) → next_due b ≡ d →
       let w = turn_with b images state samples d in turn_of b images state samples ≡ board_done w.yields w.leaves w.words
   unfolding turn_of provided ◌▷◌
   turn-done p q d e = rw (p, q, e)

@@ -1,4 +1,5 @@
 -- What each call comes to: it is refused and changes nothing, or it does its job. Assumes nothing.
+use Rattle.std.specs.Prelude.{Option, Some, None}
 use Prim.Native.Nat.{ℕ, ◌<◌}
 use mathlib.Core.Bool.{Bool, true, false}
 use mathlib.Core.List.{List, []}
@@ -10,8 +11,6 @@ use lib.ListN.{length}
 use Rattle.model.specs.Rules.Machine.{Effect}
 use Rattle.model.specs.Rules.Outcome.{Outcome, accepted, refused}
 use Rattle.model.specs.declared.Fault.{Fault}
-use Rattle.model.specs.declared.Found.{Found}
-use Rattle.model.specs.declared.Found.TheVariants.{At, Nowhere}
 use Rattle.board.specs.Board.{
   place_at,
   place_words,
@@ -70,8 +69,8 @@ pub data MarkCase (s : Scene) (k : ℕ) : Type 0 where
 
 pub data TurnCase (s : Scene) (samples : List ℤ) : Type 0 where
   turn-stays : (f : Fault) → turn_by s samples ≡ board_refusal f s.board s.state → TurnCase s samples
-  turn-idles : next_due s.board ≡ Nowhere → turn_by s samples ≡ board_done idle s.board s.state → TurnCase s samples
-  turn-takes : (k : ℕ) → next_due s.board ≡ At k → leb 260 (length s.state) ≡ true → leb 256 (length samples) ≡ true →
+  turn-idles : next_due s.board ≡ None → turn_by s samples ≡ board_done idle s.board s.state → TurnCase s samples
+  turn-takes : (k : ℕ) → next_due s.board ≡ Some k → leb 260 (length s.state) ≡ true → leb 256 (length samples) ≡ true →
       turn_by s samples ≡
       board_done (took k (run_by s samples k).answer) (taken_at s.board k) (with_words k s.state (run_by s samples k).left) →
       TurnCase s samples
@@ -108,10 +107,10 @@ pub turn-case : (s : Scene) (samples : List ℤ) → TurnCase s samples
 unfolding turn_with
 turn-case s samples = words (leb 260 (length s.state)) refl
   where
-    due : leb 260 (length s.state) ≡ true → leb 256 (length samples) ≡ true → (d : Found) → next_due s.board ≡ d →
+    due : leb 260 (length s.state) ≡ true → leb 256 (length samples) ≡ true → (d : Option ℕ) → next_due s.board ≡ d →
         TurnCase s samples
-    due p q (At k) h = turn-takes k h p q (turn-done s.board s.images s.state samples p q (At k) h)
-    due p q Nowhere h = turn-idles h (turn-done s.board s.images s.state samples p q Nowhere h)
+    due p q (Some k) h = turn-takes k h p q (turn-done s.board s.images s.state samples p q (Some k) h)
+    due p q None h = turn-idles h (turn-done s.board s.images s.state samples p q None h)
 
     lent : leb 260 (length s.state) ≡ true → (t : Bool) → leb 256 (length samples) ≡ t → TurnCase s samples
     lent p true q = due p q (next_due s.board) refl

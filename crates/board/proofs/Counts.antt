@@ -1,4 +1,5 @@
 -- The count of a place tells the turns that took it, up to its maximum. Assumes nothing.
+use Rattle.std.specs.Prelude.{Some}
 use Prim.Native.Nat.{ℕ, ◌+◌, ◌≤◌, ◌<◌}
 use mathlib.Core.Bool.{Bool, true, false, cond}
 use mathlib.Core.List.{List, [], ◌∷◌}
@@ -9,7 +10,6 @@ use borrow.Author.Tests.{ltb-true, ltb-false, leb-true, leb-false, eqb-true, eqb
 use lib.Dec.{leb, ltb, eqb}
 use lib.ListN.{length, get_or, set}
 use lib.Seq.{get_or-set_same, set_out}
-use Rattle.model.specs.declared.Found.TheVariants.{At}
 use Rattle.board.specs.Board.{
   vacant,
   place_at,
@@ -168,7 +168,7 @@ module _ (k : ℕ) (s : Scene) (le : count_at k s.board ≤ 4294967295) where
           sym (ap (λ (c : BoardEffect Yield). held (own + takes_place k c.answer)) e)
 
       -- the place taken is due, so it is in the list
-      taken : (j : ℕ) → next_due s.board ≡ At j → (t : Bool) → eqb j k ≡ t →
+      taken : (j : ℕ) → next_due s.board ≡ Some j → (t : Bool) → eqb j k ≡ t →
           count_at k (taken_at s.board j) ≡ held (own + cond t 1 0)
       taken j n true q =
           let r = reached s.board j n in

@@ -1,11 +1,10 @@
 -- The next due place by two searches: those after the place last taken, then all. Assumes nothing.
+use Rattle.std.specs.Prelude.{Option, Some, None}
 use Prim.Native.Nat.{ℕ, ◌+◌, ◌-◌, ◌%◌, ◌<◌}
 use mathlib.Core.Bool.{Bool, false}
 use mathlib.Core.Path.{◌≡◌, sym, ap, ◌∙◌}
 use native.Mathlib.Decide.{dec_lt}
 use native.Mathlib.Omega.{arith}
-use Rattle.model.specs.declared.Found.{Found}
-use Rattle.model.specs.declared.Found.TheVariants.{At, Nowhere}
 use Rattle.model.proofs.Pairs.Decide.{IsFirst, from_first}
 use Rattle.board.specs.Board.{place_at, place_after, due_after, next_due}
 use Rattle.board.specs.Board.{Board}
@@ -19,30 +18,30 @@ module _ (b : Board) where
   abbrev after : ℕ
   after = b.last % 4 + 1
 
-  found : (from : ℕ) (f : Found) → first_due b from ≡ f → IsFirst from (4 - from) due_at f
+  found : (from : ℕ) (f : Option ℕ) → first_due b from ≡ f → IsFirst from (4 - from) due_at f
   found from f e = rw e at (from_first from (4 - from) due_at)
 
   -- one after the place last taken
-  pub next-after : (k : ℕ) → first_due b after ≡ At k → next_due b ≡ At k
+  pub next-after : (k : ℕ) → first_due b after ≡ Some k → next_due b ≡ Some k
   next-after k e =
-      let h = found after (At k) e in
+      let h = found after (Some k) e in
       let i = k - after in
       let here : place_after b i ≡ k = omega (arith, h.0, h.1) in
       next-at b i (omega (arith, h.0, h.1)) (ap due_at here ∙ h.2)
-      (λ m lt. h.3 (place_after b m) (omega (arith, h.0, h.1)) (omega (arith, h.0, h.1))) ∙ ap At here
+      (λ m lt. h.3 (place_after b m) (omega (arith, h.0, h.1)) (omega (arith, h.0, h.1))) ∙ ap Some here
 
   -- as none of these is due, one up to it
-  pub next-again : (k : ℕ) → first_due b after ≡ Nowhere → first_due b 0 ≡ At k → next_due b ≡ At k
+  pub next-again : (k : ℕ) → first_due b after ≡ None → first_due b 0 ≡ Some k → next_due b ≡ Some k
   next-again k none e =
       let here : place_after b ahead ≡ k = omega (arith, low (dec_lt k after), h.1) in
       next-at b ahead (omega (arith, low (dec_lt k after), h.1)) (ap due_at here ∙ h.2)
-      (λ m lt. between m lt (dec_lt (place_after b m) after)) ∙ ap At here
+      (λ m lt. between m lt (dec_lt (place_after b m) after)) ∙ ap Some here
     where
-      n : IsFirst after (4 - after) due_at Nowhere
-      n = found after Nowhere none
+      n : IsFirst after (4 - after) due_at None
+      n = found after None none
 
-      h : IsFirst 0 4 due_at (At k)
-      h = found 0 (At k) e
+      h : IsFirst 0 4 due_at (Some k)
+      h = found 0 (Some k) e
 
       ahead : ℕ
       ahead = k + 4 - after
@@ -55,5 +54,5 @@ module _ (b : Board) where
       between m lt (yes l) = h.3 (place_after b m) (omega arith) (omega (arith, low (dec_lt k after), h.1))
       between m lt (no g) = n (place_after b m) (omega arith) (omega arith)
 
-  pub next-nowhere : first_due b 0 ≡ Nowhere → next_due b ≡ Nowhere
-  next-nowhere e = next-none b (λ m lt. found 0 Nowhere e (place_after b m) (omega arith) (omega arith))
+  pub next-nowhere : first_due b 0 ≡ None → next_due b ≡ None
+  next-nowhere e = next-none b (λ m lt. found 0 None e (place_after b m) (omega arith) (omega arith))

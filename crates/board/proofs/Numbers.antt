@@ -1,4 +1,5 @@
 -- What the calls leave of the numbers and the state is what the paper's words say, and nothing else is. Assumes nothing.
+use Rattle.std.specs.Prelude.{Some, None}
 use Prim.Native.Nat.{ℕ, ◌+◌, ◌-◌, ◌*◌, ◌/◌, ◌%◌, ◌≤◌, ◌<◌}
 use mathlib.Core.Bool.{Bool, true, false, cond}
 use mathlib.Core.List.{List}
@@ -12,7 +13,6 @@ use lib.IntN.{ℤ, pos}
 use lib.ListN.{length, get_or, take, drop, length-set, length-drop}
 use lib.Seq.{length-take-le, get_or-take, get_or-drop, ext_get_or}
 use Rattle.model.specs.Rules.Machine.{stretch}
-use Rattle.model.specs.declared.Found.TheVariants.{At, Nowhere}
 use Rattle.board.specs.Board.{with_words, place_at, place_after, count_up, next_due}
 use Rattle.board.proofs.Due.{next-below, reached, none-due}
 use Rattle.board.proofs.Words.{put-length, words-own, words-elsewhere}
@@ -272,7 +272,7 @@ module _ (w : List ℕ) where
   not-due : (j : ℕ) → j < 4 → (place_at (board_of w) j).due ≡ false → ¬ Due (flags_at w j)
   not-due j lt e = due-false (flags_at w j) (sym (due-held w j lt) ∙ e)
 
-  pub next_place : (k : ℕ) → next_due (board_of w) ≡ At k → NextPlace w k
+  pub next_place : (k : ℕ) → next_due (board_of w) ≡ Some k → NextPlace w k
   unfolding board_of
   next_place k e =
       let r = reached (board_of w) k e in
@@ -291,7 +291,7 @@ module _ (w : List ℕ) where
             (ap (λ (i : ℕ). (place_at (board_of w) i).due) (sym here) ∙ r.before (d - 1) (omega arith));
       }
 
-  pub next-none : next_due (board_of w) ≡ Nowhere → NoneDue w
+  pub next-none : next_due (board_of w) ≡ None → NoneDue w
   unfolding board_of
   next-none e j lt =
       let i = (j + 3 - last_of w % 4) % 4 in

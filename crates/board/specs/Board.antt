@@ -1,13 +1,11 @@
 -- A board with four places: its record, and what load, mark and turn make of it (21, 23, 26 to 28). Any record, images, state
 -- and samples.
-use Rattle.std.specs.Prelude.{ℕ, ◌+◌, ◌*◌, ◌%◌, Bool, true, false, cond, List, [], ◌∷◌, ◌++◌, leb, ltb, ℤ, length, get_or, take, drop, set}
+use Rattle.std.specs.Prelude.{Option, Some, None, Result, Ok, Err, ℕ, ◌+◌, ◌*◌, ◌%◌, Bool, true, false, cond, List, [], ◌∷◌, ◌++◌, leb, ltb, ℤ, length, get_or, take, drop, set}
 use Rattle.model.specs.Rules.Machine.{Effect, stretch, reset_of, cycle_of, cycled_of}
 use Rattle.model.specs.Rules.Outcome.{Outcome, accepted, refused, refuse, ◌▷◌, provided}
 use Rattle.model.specs.Rules.Search.{first_below}
-use Rattle.model.specs.declared.Found.{Found}
-use Rattle.model.specs.declared.Found.TheVariants.{At, Nowhere}
-use Rattle.board.specs.declared.Turned.{Turned}
-use Rattle.board.specs.declared.Turned.TheVariants as Turned
+use Rattle.model.specs.declared.Fault.{Fault}
+use Rattle.board.specs.declared.Taken.{Taken}
 
 -- A place: whether it is loaded and due, its stretch of the images, and the number of turns that took it since its load.
 pub record Place : Type 0 where
@@ -74,12 +72,12 @@ place_after b i = (b.last + 1 + i) % 4
 abbrev pub due_after : Board → ℕ → Bool
 due_after b i = (place_at b (place_after b i)).due
 
-abbrev pub place_found : Board → Found → Found
-place_found b (At i) = At (place_after b i)
-place_found b Nowhere = Nowhere
+abbrev pub place_found : Board → Option ℕ → Option ℕ
+place_found b (Some i) = Some (place_after b i)
+place_found b None = None
 
 -- The next due place in this order.
-unfoldable pub next_due : Board → Found
+unfoldable pub next_due : Board → Option ℕ
 next_due b = place_found b (first_below 4 (due_after b))
 
 -- A reset or a cycle on a place's words, its image a stretch of the lent buffer: 27 if the stretch lies outside, else what it
@@ -144,9 +142,9 @@ unfoldable pub run_of : Board → List ℕ → List ℤ → List ℤ → ℕ →
 run_of b images state samples k = run_in images (place_at b k).start (place_at b k).size state samples k
 
 -- A turn runs the next due place and clears its mark; a run that is refused does the same and leaves the state.
-unfoldable pub turn_with : Board → List ℕ → List ℤ → List ℤ → Found → BoardJob Yield
-turn_with b images state samples Nowhere = record { yields = idle; leaves = b; words = state }
-turn_with b images state samples (At k) =
+unfoldable pub turn_with : Board → List ℕ → List ℤ → List ℤ → Option ℕ → BoardJob Yield
+turn_with b images state samples None = record { yields = idle; leaves = b; words = state }
+turn_with b images state samples (Some k) =
     let run = run_of b images state samples k in
     record { yields = took k run.answer; leaves = taken_at b k; words = with_words k state run.left }
 
@@ -158,7 +156,7 @@ turn_of b images state samples =
     accepted (turn_with b images state samples (next_due b)))
 
 -- What the answer of a turn stands for.
-abbrev pub turned_of : Turned → Outcome Yield
-turned_of Turned.Idle = accepted idle
-turned_of (Turned.Took k run) = accepted (took k (cycled_of run))
-turned_of (Turned.Refused f) = refused f
+abbrev pub turned_of : Result (Option Taken) Fault → Outcome Yield
+turned_of (Ok None) = accepted idle
+turned_of (Ok (Some t)) = accepted (took t.place (cycled_of t.run))
+turned_of (Err f) = refused f

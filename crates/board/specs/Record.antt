@@ -1,8 +1,7 @@
 -- The board's record as an array of 17 numbers, and a turn's outcome as three, for a C caller.
-use Rattle.std.specs.Prelude.{ℕ, ◌+◌, ◌-◌, ◌*◌, ◌/◌, ◌%◌, Bool, List, [], ◌∷◌, eqb, get_or, set}
+use Rattle.std.specs.Prelude.{Option, ℕ, ◌+◌, ◌-◌, ◌*◌, ◌/◌, ◌%◌, Bool, List, [], ◌∷◌, eqb, get_or, set}
 use Rattle.model.specs.Rules.Outcome.{Outcome, accepted, refused}
 use Rattle.model.specs.Rules.Search.{first_from}
-use Rattle.model.specs.declared.Found.{Found}
 use Rattle.board.specs.Board.{count_up, place_at, Yield, idle, took}
 use Rattle.board.specs.Board.{Board}
 use Rattle.board.specs.Board.{Place}
@@ -36,7 +35,7 @@ new_words =
     0 ∷ (0 ∷ (0 ∷ (0 ∷ (0 ∷ (0 ∷ (0 ∷ (0 ∷ (0 ∷ (0 ∷ (0 ∷ (0 ∷ (0 ∷ (0 ∷ (0 ∷ (0 ∷ (3 ∷ []))))))))))))))))
 
 -- The first due place from one on.
-abbrev pub first_due : Board → ℕ → Found
+abbrev pub first_due : Board → ℕ → Option ℕ
 first_due b from = first_from from (4 - from) (λ k. (place_at b k).due)
 
 -- The array once a place is loaded with a stretch; once it is due; once a turn has taken it. The numbers of other places stay.

@@ -4,9 +4,9 @@
 // writes the numbers of its place, and a turn the place last taken; a refused call changes nothing, the record included.
 #![tactic(auto)]
 
-ghost use Rattle.std.specs.Prelude.{◌≡◌, ◌+◌, ◌≤◌, ◌<◌, leb, length};
-ghost use Rattle.model.specs.Rules.Machine.{Does, ran_of, cycled_of};
-ghost use Rattle.model.specs.Rules.Outcome.{refuse};
+ghost use Rattle.std.specs.Prelude.{◌≡◌, true, false, ◌+◌, ◌≤◌, ◌<◌, leb, length, IfOk, IfErr};
+ghost use Rattle.model.specs.Rules.Machine.{Does, stretch, ran_of, cycled_of};
+ghost use Rattle.model.specs.Rules.Outcome.{fault};
 ghost use Rattle.board.specs.Board.{count_up, place_words, with_words, reset_in, cycle_in, run_in};
 ghost use Rattle.board.specs.Board.{next_due, load_of, mark_place_of, turn_of, turned_of};
 ghost use Rattle.board.specs.Record.{
@@ -22,7 +22,7 @@ ghost use Rattle.board.specs.Record.{
 };
 ghost use Rattle.board.specs.Record.{run_outcome, outcome_in};
 
-use model::{Cycled, Fault, Found, Ran, refusals};
+use model::{Fault, Refusal};
 
 const PLACES: usize = 4;
 
@@ -34,39 +34,38 @@ const WORDS: usize = 260;
 
 const SAMPLES: usize = 256;
 
-const COUNT_MAX: u32 = 4294967295;
-
-// What a turn answers: that nothing is due, the place that it took and what its run answers, or its refusal.
+// The place that a turn took, and what its run answers.
 #[derive(Clone, Copy)]
-pub enum Turned {
-    Idle,
-    Took(u8, Cycled),
-    Refused(Fault),
-}
-
-// The refusal of a turn.
-fn denied(number: u8) -> Turned
-    ensures { turned_of result ≡ refuse number 0 }
-{
-    Turned::Refused(Fault { number, place: 0 })
+pub struct Taken {
+    pub place: u8,
+    pub run: Result<u32, Fault>,
 }
 
 // One turn more, held at the maximum.
 fn count_up(n: u32) -> u32
     ensures { result ≡ count_up n }
 {
-    if n < COUNT_MAX { n + 1 } else { n }
+    n.saturating_add(1)
+}
+
+// The stretch of the images that a place has; or the refusal where it lies outside.
+fn stretch_of<'a>(images: &'a [u8], start: usize, size: usize) -> Result<&'a [u8], Fault>
+    ensures ok { IfOk result (λ lent. (leb (start + size) (length images.now) ≡ true) ×
+        (lent.now ≡ stretch images.now start (start + size))) }
+    ensures err { IfErr result (λ f. (leb (start + size) (length images.now) ≡ false) × (f ≡ fault 27 0)) }
+{
+    if !basics::is_inside(start, size, images.len()) {
+        return basics::refuse(Refusal::StretchOutside, 0);
+    }
+    Ok(&images[start..start + size])
 }
 
 // Resets a place's words by the image in its stretch.
-fn reset_place(images: &[u8], start: usize, size: usize, words: &mut [i32]) -> Ran
+fn reset_place(images: &[u8], start: usize, size: usize, words: &mut [i32]) -> Result<(), Fault>
     ensures { Does (reset_in images.now start size words.old) (ran_of result) words.new }
 {
-    if !basics::is_inside(start, size, images.len()) {
-        return machine::refused(refusals::STRETCH_OUTSIDE);
-    }
-    let end = start + size;
-    machine::reset(&images[start..end], &mut words[..])
+    let lent = stretch_of(images, start, size)?;
+    machine::reset(lent, &mut words[..])
 }
 
 // Runs one cycle of a place. Its words and its samples are enough for any image.
@@ -76,30 +75,32 @@ fn cycle_place(
     size: usize,
     words: &mut [i32],
     samples: &[i32],
-) -> Cycled
+) -> Result<u32, Fault>
     requires { (65 ≤ length words.old) × (64 ≤ length samples.now) }
     ensures { Does
         (cycle_in images.now start size words.old samples.now)
         (cycled_of result) words.new }
 {
-    if !basics::is_inside(start, size, images.len()) {
-        return machine::stopped(refusals::STRETCH_OUTSIDE);
-    }
-    let end = start + size;
-    let lent = &images[start..end];
+    let lent = stretch_of(images, start, size)?;
     let image = image_valid::image_in(lent);
     if !image_valid::well_formed(image) {
-        return machine::stopped(refusals::IMAGE_NOT_WELL_FORMED);
+        return basics::refuse(Refusal::ImageNotWellFormed, 0);
     }
     if !machine::is_positioned(image, &words[..]) {
-        return machine::stopped(refusals::POSITION);
+        return basics::refuse(Refusal::Position, 0);
     }
     let total = machine::run_cycle(image, &mut words[..], samples);
-    Cycled::Commands(total)
+    Ok(total)
 }
 
 // Resets a place's own words.
-fn load_place(images: &[u8], start: usize, size: usize, state: &mut [i32], place: usize) -> Ran
+fn load_place(
+    images: &[u8],
+    start: usize,
+    size: usize,
+    state: &mut [i32],
+    place: usize,
+) -> Result<(), Fault>
     requires { (place < 4) × (260 ≤ length state.old) }
     ensures answer { ran_of result ≡ (reset_in images.now start size (place_words place state.old)).answer }
     ensures left { state.new ≡
@@ -119,7 +120,7 @@ fn run_place(
     state: &mut [i32],
     samples: &[i32],
     place: usize,
-) -> Cycled
+) -> Result<u32, Fault>
     requires { (place < 4) × (260 ≤ length state.old) × (256 ≤ length samples.now) }
     ensures answer { cycled_of result ≡ (run_in images.now start size state.old
         samples.now place).answer }
@@ -170,31 +171,29 @@ fn counted(count: usize) -> usize
 
 // The first due place from one on. The loop goes over all four, so that unrolled each has its numbers at fixed offsets: a turn is
 // as fast as its cycle only if no load waits for the place.
-fn first_due(words: &[usize; 17], from: usize) -> Found
+fn first_due(words: &[usize; 17], from: usize) -> Option<usize>
     ensures { result ≡ first_due (board_of words.now) from }
 {
-    let mut place: usize = 0;
-    while place < PLACES {
+    for place in 0..PLACES {
         if from <= place {
             if is_due(words[4 * place]) {
-                return Found::At(place);
+                return Some(place);
             }
         }
-        place = place + 1;
     }
-    Found::Nowhere
+    None
 }
 
-// The next due place in cyclic order after the one last taken: those after it, then all from place 0 on.
-fn next_due(words: &[usize; 17]) -> Found
+// The next due place in cyclic order after the one last taken: those after it, then all from place 0 on. A match is plainer than
+// `or_else`, whose closure would need a clause of its own.
+fn next_due(words: &[usize; 17]) -> Option<usize>
     ensures { result ≡ next_due (board_of words.now) }
 {
     let after = words[16] % PLACES + 1;
-    let found = first_due(words, after);
-    let Found::Nowhere = found else {
-        return found;
-    };
-    first_due(words, 0)
+    match first_due(words, after) {
+        Some(place) => Some(place),
+        None => first_due(words, 0),
+    }
 }
 
 // Loads a place: resets it, and clears its due mark.
@@ -205,7 +204,7 @@ pub fn load(
     place: usize,
     start: usize,
     size: usize,
-) -> Ran
+) -> Result<(), Fault>
     ensures answer { ran_of result ≡ (load_of (board_of words.old) images.now state.old
         place start size).answer }
     ensures kept { words.new ≡
@@ -215,42 +214,44 @@ pub fn load(
         place start size).left }
 {
     if PLACES <= place {
-        return machine::refused(refusals::NO_SUCH_PLACE);
+        return basics::refuse(Refusal::NoSuchPlace, 0);
     }
     if state.len() < WORDS {
-        return machine::refused(refusals::STATE_SHORT);
+        return basics::refuse(Refusal::StateShort, 0);
     }
-    let ran = load_place(images, start, size, &mut state[..], place);
-    let Ran::Done = ran else {
-        return ran;
-    };
+    load_place(images, start, size, &mut state[..], place)?;
     let at = 4 * place;
     words[at] = 1;
     words[at + 1] = start;
     words[at + 2] = size;
     words[at + 3] = 0;
-    ran
+    Ok(())
 }
 
 // Marks a loaded place due.
-pub fn mark(words: &mut [usize; 17], place: usize) -> Ran
+pub fn mark(words: &mut [usize; 17], place: usize) -> Result<(), Fault>
     ensures answer { ran_of result ≡ (mark_place_of (board_of words.old) place).answer }
     ensures kept { words.new ≡
         mark_record words.old place (mark_place_of (board_of words.old) place).answer }
 {
     if PLACES <= place {
-        return machine::refused(refusals::NO_SUCH_PLACE);
+        return basics::refuse(Refusal::NoSuchPlace, 0);
     }
     let at = 4 * place;
     if !is_loaded(words[at]) {
-        return machine::refused(refusals::NEVER_LOADED);
+        return basics::refuse(Refusal::NeverLoaded, 0);
     }
     words[at] = 3;
-    Ran::Done
+    Ok(())
 }
 
-// Runs the next due place, if there is one, and clears its mark.
-pub fn turn(words: &mut [usize; 17], images: &[u8], state: &mut [i32], samples: &[i32]) -> Turned
+// Runs the next due place, if there is one, and clears its mark. Where nothing is due it takes no place.
+pub fn turn(
+    words: &mut [usize; 17],
+    images: &[u8],
+    state: &mut [i32],
+    samples: &[i32],
+) -> Result<Option<Taken>, Fault>
     ensures answer { turned_of result ≡ (turn_of (board_of words.old) images.now state.old
         samples.now).answer }
     ensures kept { words.new ≡
@@ -260,14 +261,13 @@ pub fn turn(words: &mut [usize; 17], images: &[u8], state: &mut [i32], samples: 
         samples.now).left }
 {
     if state.len() < WORDS {
-        return denied(refusals::STATE_SHORT);
+        return basics::refuse(Refusal::StateShort, 0);
     }
     if samples.len() < SAMPLES {
-        return denied(refusals::SAMPLES_SHORT);
+        return basics::refuse(Refusal::SamplesShort, 0);
     }
-    let found = next_due(words);
-    let Found::At(place) = found else {
-        return Turned::Idle;
+    let Some(place) = next_due(words) else {
+        return Ok(None);
     };
     let at = 4 * place;
     let loaded = words[at] % 2;
@@ -278,28 +278,30 @@ pub fn turn(words: &mut [usize; 17], images: &[u8], state: &mut [i32], samples: 
     words[at + 3] = count;
     words[16] = place;
     let run = run_place(images, start, size, &mut state[..], samples, place);
-    let taken = place as u8;
-    Turned::Took(taken, run)
+    Ok(Some(Taken {
+        place: place as u8,
+        run,
+    }))
 }
 
 // The outcome of a turn that took a place: 1 or 2, the place, and the commands that it ran or the number of the run's refusal.
-fn outcome_of(place: u8, run: Cycled) -> [u32; 3]
+fn outcome_of(place: u8, run: Result<u32, Fault>) -> [u32; 3]
     ensures { result ≡ run_outcome place (cycled_of run) }
 {
     let at = place as u32;
     match run {
-        Cycled::Commands(n) => [1, at, n],
-        Cycled::Refused(fault) => [2, at, fault.number as u32],
+        Ok(n) => [1, at, n],
+        Err(fault) => [2, at, fault.number as u32],
     }
 }
 
 // Tells a turn's answer as three numbers. A refused turn leaves what was there.
-pub fn tell_turn(turned: Turned, outcome: &mut [u32; 3])
+pub fn tell_turn(turned: Result<Option<Taken>, Fault>, outcome: &mut [u32; 3])
     ensures { outcome.new ≡ outcome_in outcome.old (turned_of turned) }
 {
     match turned {
-        Turned::Idle => *outcome = [0, 0, 0],
-        Turned::Took(place, run) => *outcome = outcome_of(place, run),
-        Turned::Refused(_) => {}
+        Ok(None) => *outcome = [0, 0, 0],
+        Ok(Some(taken)) => *outcome = outcome_of(taken.place, taken.run),
+        Err(_) => {}
     }
 }

@@ -1,4 +1,5 @@
 -- The hypercycle found step by step. Assumes nothing.
+use Rattle.std.specs.Prelude.{Option, Some}
 use Prim.Native.Nat.{ℕ, zero, suc, ◌+◌, ◌-◌, ◌%◌, ◌≤◌, ◌<◌}
 use mathlib.Core.Bool.{Bool, true, false, ◌&&◌}
 use mathlib.Core.List.{List}
@@ -12,8 +13,6 @@ use Rattle.model.specs.Rules.Outcome.{accepted, refuse}
 use Rattle.model.specs.Rules.Program.{Program, Signal, no_signal}
 use Rattle.model.specs.Rules.Rates.{is_multiple, hypercycle_of, hypercycle}
 use Rattle.model.specs.Rules.Search.{first_from, first_below}
-use Rattle.model.specs.declared.Found.{Found}
-use Rattle.model.specs.declared.Found.TheVariants.{At}
 
 -- The periods from signal s on: the first of them and the rest, or none.
 pub multiple-here : (xs : List Signal) (s h : ℕ) → s < length xs →
@@ -26,7 +25,7 @@ unfolding is_multiple
 multiple-over xs s h le = rw (drop_of_length-le xs le)
 
 -- A search that finds what it looks for at once, or goes on.
-first-here : (i n : ℕ) (test : ℕ → Bool) → 0 < n → test i ≡ true → first_from i n test ≡ At i
+first-here : (i n : ℕ) (test : ℕ → Bool) → 0 < n → test i ≡ true → first_from i n test ≡ Some i
 unfolding first_from
 first-here i zero test h e = absurd (omega arith)
 first-here i (suc n) test h e = rw (e, first_from)
@@ -38,7 +37,7 @@ first-later i (suc n) test h e = rw (sub-one (suc n)) (rw (e, first_from))
 
 module _ (p : Program) where
   -- What is left of the search for the hypercycle, after the numbers up to h.
-  unfoldable pub left_from : ℕ → Found
+  unfoldable pub left_from : ℕ → Option ℕ
   left_from h = first_from h (240 - h) (λ k. is_multiple p.signals (suc k))
 
   pub cycle_start : hypercycle p ≡ hypercycle_of (left_from 0)

@@ -1,4 +1,5 @@
 -- Indices and rates by the tables. Assumes nothing.
+use Rattle.std.specs.Prelude.{Option, Some, None}
 use Prim.Native.Nat.{ℕ, ◌≤◌, ◌<◌}
 use mathlib.Core.Path.{◌≡◌, refl}
 use native.Mathlib.Omega.{arith}
@@ -12,8 +13,6 @@ use Rattle.model.specs.Rules.Program.{Program, Read, count}
 use Rattle.model.specs.Rules.Reads.{Rate, rate_of, line, settle}
 use Rattle.model.specs.Rules.Schedule.{Schedule}
 use Rattle.model.specs.Rules.Search.{first_below}
-use Rattle.model.specs.declared.Found.{Found}
-use Rattle.model.specs.declared.Found.TheVariants.{At, Nowhere}
 use Rattle.model.specs.declared.Kind.{Kind}
 use Rattle.model.proofs.Pairs.Decide.{is-first}
 use Rattle.model.proofs.Texts.Legal.{stands}
@@ -26,9 +25,9 @@ pub settle-byte : (kind : Kind) (w r : Rate) (n : ℕ) → n < 256 → ByteFound
 unfolding settle
 settle-byte kind w r n lt = go (first_below n (line kind w r)) refl
   where
-    go : (f : Found) → first_below n (line kind w r) ≡ f → ByteFound f
-    go (At i) e = let h = is-first n (line kind w r) (At i) e in omega arith
-    go Nowhere e = tt
+    go : (f : Option ℕ) → first_below n (line kind w r) ≡ f → ByteFound f
+    go (Some i) e = let h = is-first n (line kind w r) (Some i) e in omega arith
+    go None e = tt
 
 module _ {text reads : List ℕ} {tables : Tables} {periods phases : List ℕ} {p : Program} {s : Schedule}
     (k : Known text reads tables periods phases p s) where

@@ -1,5 +1,5 @@
 -- What is known of a pair whose latencies are judged.
-use Rattle.std.specs.Prelude.{ℕ, ◌≤◌, ◌<◌, List, ◌∷◌, ◌≡◌, leb, get_or}
+use Rattle.std.specs.Prelude.{Option, Some, None, ℕ, ◌≤◌, ◌<◌, List, ◌∷◌, ◌≡◌, leb, get_or}
 use Rattle.latency_rule.specs.Hops.{RouteOver}
 use Rattle.model.specs.Says.Feasible.{Feasible, Multiple}
 use Rattle.model.specs.Rules.Latency.{reads_back, source, backwards, keeps}
@@ -8,8 +8,6 @@ use Rattle.model.specs.Rules.Program.{Program, Chain, count}
 use Rattle.model.specs.Rules.Rates.{declared_and_rated, linked}
 use Rattle.model.specs.Rules.Reads.{met}
 use Rattle.model.specs.Rules.Schedule.{Schedule, phase_of}
-use Rattle.model.specs.declared.Found.{Found}
-use Rattle.model.specs.declared.Found.TheVariants.{At, Nowhere}
 use Rattle.text_program.specs.Tables.{PeriodsOf, Stands}
 use Rattle.text_program.specs.declared.Tables.{Tables}
 use Rattle.text_schedule.specs.Arranged.{Arranged}
@@ -19,9 +17,9 @@ use Rattle.check_latency.specs.declared.Leeway.{Leeway}
 use Rattle.check_latency.specs.declared.Limit.{Limit}
 
 -- An index is a byte.
-abbrev pub ByteFound : Found → Type 0
-ByteFound (At i) = i < 256
-ByteFound Nowhere = Unit {0}
+abbrev pub ByteFound : Option ℕ → Type 0
+ByteFound (Some i) = i < 256
+ByteFound None = Unit {0}
 
 -- There is a pair that has these tables, and its reads are met.
 abbrev pub MetPair : List ℕ → List ℕ → PairTables → Type 0

@@ -17,7 +17,7 @@ ghost use Rattle.latency_rule.specs.Hops.{hop_of};
 ghost use Rattle.check_rates.specs.Rates.{period_at};
 ghost use Rattle.basics.specs.Judgement.{judgement_of};
 ghost use Rattle.text_program.specs.Tables.{chain_at, Standing};
-ghost use Rattle.text_schedule.specs.Arranged.{Arranged, pair_tables};
+ghost use Rattle.text_schedule.specs.Arranged.{Arranged};
 ghost use Rattle.read_rule.specs.Reads.{rate_in};
 ghost use Rattle.check_latency.specs.Timely.{
   ByteFound,
@@ -32,21 +32,20 @@ ghost use Rattle.check_latency.specs.Timely.{
   LeewayOf,
 };
 
-use basics::Judged;
 use latency_rule::{Hop, Route};
-use model::{Declaration, Fault, Found, Index, Kind, Mode, Sampled, refusals};
+use model::{Declaration, Fault, Index, Kind, Mode, Refusal, Sampled};
 use read_rule::Timing;
 use text_program::Tables;
-use text_schedule::Slots;
+use text_schedule::PairTables;
 
 // The index found, or 0.
-fn index_found(found: Found) -> u8
+fn index_found(found: Option<usize>) -> u8
     requires { ByteFound found }
     ensures { result ≡ found_or 0 found }
 {
     match found {
-        Found::At(i) => i as u8,
-        Found::Nowhere => 0,
+        Some(i) => i as u8,
+        None => 0,
     }
 }
 
@@ -137,7 +136,7 @@ pub fn hop_at(
 {
     let firsts = tables.firsts;
     let found = check_links::one_read(text, reads, &firsts, tables.signals, w, r);
-    let Found::At(at) = found else {
+    let Some(at) = found else {
         return no_hop();
     };
     let taken = text_command::taken_at(text, at);
@@ -171,12 +170,12 @@ fn follow(
     let lengths = tables.lengths;
     let start = basics::from_entry(starts[chain]);
     let mut at = start + width::in_program(0x12);
-    let mut left = basics::from_byte(lengths[chain]);
+    let links = basics::from_byte(lengths[chain]);
     let source = text[at + 1];
     let mut last = source;
     let mut count: usize = 0;
     let mut hops = [no_hop(); 15];
-    while 1 < left {
+    for more in (1..links).rev() {
         let second = at + width::in_program(0x13);
         let signal = text[second + 1];
         let hop = hop_at(text, reads, tables, periods, phases, last, signal);
@@ -184,7 +183,6 @@ fn follow(
         count = count + 1;
         last = signal;
         at = second;
-        left = left - 1;
     }
     let route = Route {
         hops: hops,
@@ -230,45 +228,38 @@ fn judge_chains(
     periods: &[u8; 64],
     phases: &[u8; 64],
     h: usize,
-) -> Judged
+) -> Result<(), Fault>
     requires { Judgeable text.now reads.now tables periods.now phases.now h }
     ensures { (p : Program) (s : Schedule) →
         Timed text.now reads.now tables periods.now phases.now h p s →
         result ≡ judgement_of (timely p s h) }
 {
     let starts = tables.starts;
-    let mut chain: usize = 0;
-    while chain < tables.chains {
+    for chain in 0..tables.chains {
         if !keeps_time(text, reads, tables, periods, phases, h, chain) {
-            return Judged::Refused(Fault {
-                number: refusals::LATENCY,
-                place: basics::from_entry(starts[chain]),
-            });
+            return basics::refuse(Refusal::Latency, basics::from_entry(starts[chain]));
         }
-        chain = chain + 1;
     }
-    Judged::Fine
+    Ok(())
 }
 
 // 16 of a pair by its tables. Its reads are met.
-pub fn check_latency(
-    text: &[u8],
-    reads: &[u16],
-    tables: Tables,
-    slots: Slots,
-    hypercycle: usize,
-) -> Judged
-    requires { MetPair text.now reads.now (pair_tables tables slots hypercycle) }
-    ensures { (p : Program) (s : Schedule) →
-        Arranged text.now reads.now (pair_tables tables slots hypercycle) p s → met p s ≡ accepted tt →
-        result ≡ judgement_of (timely p s hypercycle) }
+pub fn check_latency(text: &[u8], reads: &[u16], pair: &PairTables) -> Result<(), Fault>
+    requires { MetPair text.now reads.now pair.now }
+    ensures { (p : Program) (s : Schedule) → Arranged text.now reads.now pair.now p s → met p s ≡ accepted tt →
+        result ≡ judgement_of (timely p s pair.now.hypercycle) }
 {
-    if tables.chains == 0 {
-        return Judged::Fine;
+    if pair.tables.chains == 0 {
+        return Ok(());
     }
-    let periods = tables.periods;
-    let phases = slots.phases;
-    judge_chains(text, reads, tables, &periods, &phases, hypercycle)
+    judge_chains(
+        text,
+        reads,
+        pair.tables,
+        &pair.tables.periods,
+        &pair.slots.phases,
+        pair.hypercycle,
+    )
 }
 
 // A chain's first and last link, its bound, and the least bound with which it would keep its limit.

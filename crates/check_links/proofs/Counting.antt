@@ -1,4 +1,5 @@
 -- Counting the reads of a signal by their index. Assumes nothing.
+use Rattle.std.specs.Prelude.{Some, None}
 use Prim.Native.Nat.{ℕ, suc, ◌+◌, ◌-◌, ◌≤◌, ◌<◌}
 use mathlib.Core.Bool.{Bool, true, false, cond}
 use mathlib.Core.List.{List, []}
@@ -15,7 +16,6 @@ use Rattle.model.specs.Rules.Program.{Program, Read, no_signal, count, signal_at
 use Rattle.model.specs.Rules.Latency.{read_among}
 use Rattle.model.specs.Rules.Rates.{count_reads}
 use Rattle.model.specs.declared.Operator.TheVariants as Operator
-use Rattle.model.specs.declared.Found.TheVariants.{At, Nowhere}
 use Rattle.model.specs.declared.Kind.{Kind}
 use Rattle.model.specs.declared.Sampled.{Sampled}
 use Rattle.model.proofs.Texts.Legal.{stands, signal-reads}
@@ -104,16 +104,16 @@ module _ (w : ℕ) (ρs : List Read) where
         let g : count_reads w (drop m ρs) ≡ 0 = ap (count_reads w) f in
         omega (arith, s.counts, g)
 
-    pub one_found : many ≡ 1 → At found ≡ one_read w ρs
+    pub one_found : many ≡ 1 → Some found ≡ one_read w ρs
     unfolding one_read
     one_found e = rw (eq-eqb (count_reads w ρs) 1 (omega (arith, all-counted)), s.one e)
 
-    pub none_found : (many ≡ 1 → ⊥) → Nowhere ≡ one_read w ρs
+    pub none_found : (many ≡ 1 → ⊥) → None ≡ one_read w ρs
     unfolding one_read
     none_found n = rw (ne_eqb (count_reads w ρs) 1 (λ e. n (omega (arith, all-counted))))
 
 -- A signal that is not declared has no reads.
-pub none-far : (p : Program) (w x : ℕ) → count p ≤ x → Nowhere ≡ one_read w (body_reads (signal_at p x).body)
+pub none-far : (p : Program) (w x : ℕ) → count p ≤ x → None ≡ one_read w (body_reads (signal_at p x).body)
 unfolding count_reads one_read
 none-far p w x le = rw (get_or-eq_default p.signals no_signal le)
 
@@ -155,25 +155,25 @@ module _ {text reads firsts : List ℕ} {n : ℕ} {p : Program} (ix : Indexes te
 
 -- What the answer says of the reads.
 module _ (w : ℕ) (ρs : List Read) where
-  pub found-one : (at : ℕ) → one_read w ρs ≡ At at → (eqb (count_reads w ρs) 1 ≡ true) × ((read_among w ρs).place ≡ at)
+  pub found-one : (at : ℕ) → one_read w ρs ≡ Some at → (eqb (count_reads w ρs) 1 ≡ true) × ((read_among w ρs).place ≡ at)
   unfolding one_read
   found-one at e = go (eqb (count_reads w ρs) 1) e
     where
-      go : (b : Bool) → cond b (At (read_among w ρs).place) Nowhere ≡ At at → (b ≡ true) × ((read_among w ρs).place ≡ at)
+      go : (b : Bool) → cond b (Some (read_among w ρs).place) None ≡ Some at → (b ≡ true) × ((read_among w ρs).place ≡ at)
       go true h = (refl, cc)
       go false h = let z : ◌≡◌ {A = ℕ} 0 1 = cc in absurd (omega arith)
 
-  pub found_none : one_read w ρs ≡ Nowhere → eqb (count_reads w ρs) 1 ≡ false
+  pub found_none : one_read w ρs ≡ None → eqb (count_reads w ρs) 1 ≡ false
   unfolding one_read
   found_none e = go (eqb (count_reads w ρs) 1) e
     where
-      go : (b : Bool) → cond b (At (read_among w ρs).place) Nowhere ≡ Nowhere → b ≡ false
+      go : (b : Bool) → cond b (Some (read_among w ρs).place) None ≡ None → b ≡ false
       go true h = let z : ◌≡◌ {A = ℕ} 0 1 = cc in absurd (omega arith)
       go false h = refl
 
 -- The one read of w in the equation of x stands at `at`.
 module _ (text : List ℕ) (p : Program) (e : LegalProgram text p) (w x at : ℕ)
-    (one : one_read w (body_reads (signal_at p x).body) ≡ At at) where
+    (one : one_read w (body_reads (signal_at p x).body) ≡ Some at) where
   abbrev only : Read
   only = read_among w (body_reads (signal_at p x).body)
 
@@ -183,7 +183,7 @@ module _ (text : List ℕ) (p : Program) (e : LegalProgram text p) (w x at : ℕ
       go : Dec (x < count p) → x < count p
       go (yes l) = l
       go (no n) =
-          let f : Nowhere ≡ At at = none-far p w x (omega arith) ∙ one in
+          let f : None ≡ Some at = none-far p w x (omega arith) ∙ one in
           let z : ◌≡◌ {A = ℕ} 0 1 = cc in
           absurd (omega arith)
 

@@ -1,4 +1,5 @@
 -- The links of a chain (10), link after link. Assumes nothing.
+use Rattle.std.specs.Prelude.{Ok, Err}
 use Prim.Native.Nat.{ℕ, suc, ◌+◌, ◌-◌, ◌≤◌, ◌<◌}
 use mathlib.Core.Bool.{Bool, true, false, cond, ◌&&◌}
 use mathlib.Core.List.{List, [], ◌∷◌, map}
@@ -16,7 +17,6 @@ use Rattle.model.proofs.Texts.Legal.{stands}
 use Rattle.model.specs.Says.Stands.{SpellsChain}
 use Rattle.model.specs.Says.Grammar.{SpellsLinks, LegalProgram}
 use Rattle.basics.specs.Judgement.{judgement_of}
-use Rattle.basics.specs.declared.Judged.TheVariants as Judged
 use Rattle.text_program.specs.Tables.{no_chain, chain_at, TablesOf, Stands}
 use Rattle.text_program.specs.declared.Tables.{Tables}
 use Rattle.text_program.proofs.InTurn.{Within, AtPlaces}
@@ -126,7 +126,7 @@ lat-at number test j c a b r = go (test c)
     )
 
 -- Its judgement goes by the test.
-pub lat-judged : (f : Fault) (t b : Bool) → t ≡ b → cond b Judged.Fine (Judged.Refused f) ≡ judgement_of
+pub lat-judged : (f : Fault) (t b : Bool) → t ≡ b → cond b (Ok tt) (Err f) ≡ judgement_of
     (lowest (cond t [] (f ∷ [])))
 unfolding judgement_of lowest
 lat-judged f true b e = rw (← e)

@@ -8,8 +8,7 @@ ghost use Rattle.text_program.specs.Tables.{Stands, Standing, Indexes, Indexed, 
 ghost use Rattle.check_links.specs.Links.{one_read};
 ghost use Rattle.basics.specs.Judgement.{judgement_of};
 
-use basics::Judged;
-use model::{Found, refusals};
+use model::{Fault, Refusal};
 use text_program::Tables;
 
 // The offset of the one read of `before` in the equation of `signal`, over its reads by their index in the table; nowhere if
@@ -21,32 +20,30 @@ pub fn one_read(
     count: usize,
     before: u8,
     signal: u8,
-) -> Found
+) -> Option<usize>
     requires { (count ≤ 64) × Indexed text.now reads.now firsts.now count }
     ensures { (p : Program) → Indexes text.now reads.now firsts.now count p →
         result ≡ one_read before (body_reads (signal_at p signal).body) }
 {
     let index = basics::from_byte(signal);
     if count <= index {
-        return Found::Nowhere;
+        return None;
     }
     let first = basics::from_entry(firsts[index]);
     let end = basics::from_entry(firsts[index + 1]);
-    let mut i = first;
     let mut many: usize = 0;
     let mut found: usize = 0;
-    while i < end {
+    for i in first..end {
         let at = basics::from_entry(reads[i]);
         if text[at + 1] == before {
             many = many + 1;
             found = at;
         }
-        i = i + 1;
     }
     if many != 1 {
-        return Found::Nowhere;
+        return None;
     }
-    Found::At(found)
+    Some(found)
 }
 
 // Whether the equation of each link of a chain after the first has exactly one read of the link before.
@@ -59,40 +56,34 @@ fn is_linked(text: &[u8], reads: &[u16], tables: Tables, chain: usize) -> bool
     let starts = tables.starts;
     let lengths = tables.lengths;
     let mut at = basics::from_entry(starts[chain]) + width::in_program(0x12);
-    let mut left = basics::from_byte(lengths[chain]);
-    while 1 < left {
+    let links = basics::from_byte(lengths[chain]);
+    for more in (1..links).rev() {
         let second = at + width::in_program(0x13);
         let before = text[at + 1];
         let signal = text[second + 1];
         let read = one_read(text, reads, &firsts, tables.signals, before, signal);
-        let Found::At(_) = read else {
+        let Some(_) = read else {
             return false;
         };
         at = second;
-        left = left - 1;
     }
     true
 }
 
 // 10 at the lowest LAT whose links are not linked. (Links × the reads of their equations.)
-pub fn check_links(text: &[u8], reads: &[u16], tables: Tables) -> Judged
+pub fn check_links(text: &[u8], reads: &[u16], tables: Tables) -> Result<(), Fault>
     requires { Standing text.now reads.now tables }
     ensures { (p : Program) → Stands text.now reads.now tables p →
         result ≡ judgement_of (linked p) }
 {
     if tables.chains == 0 {
-        return Judged::Fine;
+        return Ok(());
     }
     let starts = tables.starts;
-    let mut chain: usize = 0;
-    while chain < tables.chains {
+    for chain in 0..tables.chains {
         if !is_linked(text, reads, tables, chain) {
-            return basics::refuse(
-                refusals::LINK_NOT_READ_ONCE,
-                basics::from_entry(starts[chain]),
-            );
+            return basics::refuse(Refusal::LinkNotReadOnce, basics::from_entry(starts[chain]));
         }
-        chain = chain + 1;
     }
-    Judged::Fine
+    Ok(())
 }

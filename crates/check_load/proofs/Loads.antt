@@ -1,4 +1,5 @@
 -- Laws of sums over tables, and of the load by tables. Assumes nothing.
+use Rattle.std.specs.Prelude.{Option, Some, None, Result, Ok, Err}
 use mathlib.Core.Path.{◌≡◌, refl, sym, ap, ap₂, ◌∙◌, fun_ext}
 use mathlib.Core.Bool.{Bool, true, false, cond}
 use mathlib.Core.List.{List}
@@ -13,12 +14,9 @@ use Rattle.model.specs.Rules.Program.{Program, unlimited, limit, count, signal_a
 use Rattle.model.specs.Rules.Reads.{due, rate_of}
 use Rattle.model.specs.Rules.Schedule.{Schedule}
 use Rattle.model.specs.Rules.Search.{sum, table, table_from, first_below, first_from}
-use Rattle.model.specs.declared.Found.{Found}
-use Rattle.model.specs.declared.Found.TheVariants.{At, Nowhere}
 use Rattle.model.proofs.Basics.Outcomes.{sum-from}
 use Rattle.text_program.specs.Tables.{PeriodsOf, WeightsOf, cap_of}
-use Rattle.basics.specs.declared.Judged.{Judged}
-use Rattle.basics.specs.declared.Judged.TheVariants as Judged
+use Rattle.model.specs.declared.Fault.{Fault}
 use Rattle.basics.specs.Judgement.{judgement_of}
 use Rattle.check_load.specs.Load.{added_in, load_in, LoadsOf, PhasesOf}
 use Rattle.runs.specs.Raised.{Raised}
@@ -64,14 +62,14 @@ load_is p s periods phases weights hp hw hf c =
     same x lt = rw (hp x lt, hw x lt, hf x lt)
 
 -- The judgement from what a search over the cycles finds.
-abbrev pub judged_at : Found → Judged
-judged_at (At c) = Judged.Refused (record { number = 15; place = c })
-judged_at Nowhere = Judged.Fine
+abbrev pub judged_at : Option ℕ → Result (Unit {0}) Fault
+judged_at (Some c) = Err (record { number = 15; place = c })
+judged_at None = Ok tt
 
-judged-found : (f : Found) → judgement_of (loaded_of f) ≡ judged_at f
+judged-found : (f : Option ℕ) → judgement_of (loaded_of f) ≡ judged_at f
 unfolding judgement_of
-judged-found (At c) = refl
-judged-found Nowhere = refl
+judged-found (Some c) = refl
+judged-found None = refl
 
 pub judged-load : (p : Program) (s : Schedule) (periods phases weights : List ℕ) (h m : ℕ) → PeriodsOf p periods →
     WeightsOf p weights → PhasesOf p s phases → p.cap ≡ limit m →
@@ -83,12 +81,12 @@ judged-load p s periods phases weights h m hp hw hf e =
     (fun_ext (λ c. ap (λ l. is_over l (load p s c)) e ∙ ap (ltb m) (load_is p s periods phases weights hp hw hf c)))
 
 -- With no CAP no cycle is over it.
-never-found : (i n : ℕ) → first_from i n (λ c. false) ≡ Nowhere
+never-found : (i n : ℕ) → first_from i n (λ c. false) ≡ None
 unfolding first_from
 never-found i zero = refl
 never-found i (suc n) = never-found (suc i) n
 
-pub judged-free : (p : Program) (s : Schedule) (h : ℕ) → p.cap ≡ unlimited → judgement_of (loaded p s h) ≡ Judged.Fine
+pub judged-free : (p : Program) (s : Schedule) (h : ℕ) → p.cap ≡ unlimited → judgement_of (loaded p s h) ≡ Ok tt
 unfolding loaded first_below
 judged-free p s h e =
     judged-found (first_below h (λ c. is_over p.cap (load p s c))) ∙
@@ -101,21 +99,20 @@ first-same i zero f g h = refl
 first-same i (suc n) f g h =
     let a : f i ≡ g i = ap f (sym (add-zero i)) ∙ h 0 (omega arith) ∙ ap g (add-zero i) in
     let b = first-same (suc i) n f g (λ x lt. ap f (omega arith) ∙ h (suc x) (omega arith) ∙ ap g (omega arith)) in
-    ap₂ (λ (t : Bool) (r : Found). elim t [ true ↦ At i | false ↦ r ]) a b
+    ap₂ (λ (t : Bool) (r : Option ℕ). elim t [ true ↦ Some i | false ↦ r ]) a b
 
 -- Whether an entry of a table of loads is over m.
 abbrev pub over : List ℕ → ℕ → ℕ → Bool
 over loads m c = ltb m (get_or loads c 0)
 
-pub judged-capped : (p : Program) (s : Schedule) (periods phases weights loads : List ℕ) (n h m : ℕ) (capped : Bool) (f : Found) →
-    capped ≡ true → count p ≡ n → PeriodsOf p periods → WeightsOf p weights → PhasesOf p s phases → p.cap ≡ cap_of capped m →
+pub judged-capped : (p : Program) (s : Schedule) (periods phases weights loads : List ℕ) (n h m : ℕ) (f : Option ℕ) →
+    count p ≡ n → PeriodsOf p periods → WeightsOf p weights → PhasesOf p s phases → p.cap ≡ limit m →
     LoadsOf periods phases weights n h loads → first_below h (over loads m) ≡ f → judged_at f ≡ judgement_of (loaded p s h)
 unfolding first_below
-judged-capped p s periods phases weights loads n h m capped f t e hp hw hf cap l g =
-    sym (judged-load p s periods phases weights h m hp hw hf (cap ∙ ap (λ b. cap_of b m) t) ∙
+judged-capped p s periods phases weights loads n h m f e hp hw hf cap l g =
+    sym (judged-load p s periods phases weights h m hp hw hf cap ∙
     ap (λ k. judged_at (first_below h (λ c. ltb m (load_in periods phases weights k c)))) e ∙
     ap judged_at (first-same 0 h _ _ (λ x lt. ap (ltb m) (sym (l (0 + x) (omega arith)))) ∙ g))
 
-pub judged-uncapped : (p : Program) (s : Schedule) (h m : ℕ) (capped : Bool) → capped ≡ false → p.cap ≡ cap_of capped m →
-    Judged.Fine ≡ judgement_of (loaded p s h)
-judged-uncapped p s h m capped t cap = sym (judged-free p s h (cap ∙ ap (λ b. cap_of b m) t))
+pub judged-uncapped : (p : Program) (s : Schedule) (h : ℕ) → p.cap ≡ unlimited → Ok tt ≡ judgement_of (loaded p s h)
+judged-uncapped p s h cap = sym (judged-free p s h cap)

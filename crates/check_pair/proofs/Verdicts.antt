@@ -1,4 +1,5 @@
 -- Laws of the answers of the checks, and of their steps. Assumes nothing.
+use Rattle.std.specs.Prelude.{Result, Ok, Err}
 use Prim.Native.Nat.{ℕ, ◌≤◌}
 use mathlib.Core.Bool.{true, and-eq-true_iff}
 use mathlib.Core.List.{List}
@@ -15,36 +16,30 @@ use Rattle.model.specs.Rules.Schedule.{Schedule, Put, parse_schedule, placed}
 use Rattle.model.proofs.Texts.Spelled.{declared}
 use Rattle.model.proofs.Basics.Outcomes.{then-accepted, then-then, then_same, provided-true}
 use Rattle.basics.specs.Judgement.{Answers}
-use Rattle.basics.proofs.Judgements.{answers-fine}
+use Rattle.basics.proofs.Judgements.{answers-ok}
 use Rattle.text_program.specs.Tables.{ProgramReads, TablesOf, ReadsOf, SlotsOf, Stands}
-use Rattle.basics.specs.declared.Judged.{Judged}
-use Rattle.basics.specs.declared.Judged.TheVariants as Judged
+use Rattle.model.specs.declared.Fault.{Fault}
 use Rattle.text_program.specs.declared.Tables.{Tables}
 use Rattle.text_schedule.specs.Slots.{ScheduledAs}
 use Rattle.text_schedule.specs.declared.Slots.{Slots}
 use Rattle.check_pair.specs.Groups.{rates_of, schedule_for, steps_of}
 
--- The other forms in which the checks below answer.
-pub program-answers : (o : Outcome Program) (reads : List ℕ) (t : Tables) → ProgramReads o reads t →
-    Answers (λ p. TablesOf p t × ReadsOf p reads t.firsts) o t.judged
+-- The reader's answer, in the form of the others.
+pub program-answers : (o : Outcome Program) (reads : List ℕ) (r : Result Tables Fault) → ProgramReads o reads r →
+    Answers (λ p t. TablesOf p t × ReadsOf p reads t.firsts) o r
 unfolding Answers ProgramReads
-program-answers (accepted p) reads t h = (h.0, (h.1, h.2))
-program-answers (refused f) reads t h = h
+program-answers (accepted p) reads r h = (h.0, h.1, (h.2, h.3))
+program-answers (refused f) reads r h = h
 
-pub program-read : (text reads : List ℕ) (t : Tables) → ProgramReads (parse_program text) reads t → t.judged ≡ Judged.Fine →
-    (p : Program) × (parse_program text ≡ accepted p) × Stands text reads t p
-program-read text reads t h e =
-    let a = answers-fine _ _ _ (program-answers _ reads t h) e in (
+-- The program that is read.
+pub program-read : (text reads : List ℕ) (r : Result Tables Fault) (t : Tables) → ProgramReads (parse_program text) reads r →
+    r ≡ Ok t → (p : Program) × (parse_program text ≡ accepted p) × Stands text reads t p
+program-read text reads r t h e =
+    let a = answers-ok _ _ _ _ (program-answers _ reads r h) e in (
       a.0,
       a.1,
       record { declares = declared least_factor text a.0 a.1; tables-are = a.2.0; reads-are = a.2.1 },
     )
-
-pub schedule-answers : (p : Program) (o : Outcome Schedule) (t : Slots) → ScheduledAs p o t →
-    Answers (λ s. SlotsOf p s t.order t.phases t.ranks) o t.judged
-unfolding Answers ScheduledAs
-schedule-answers p (accepted s) t h = (h.0, h.2)
-schedule-answers p (refused f) t h = h
 
 -- The steps are those of the verdict.
 rates-then : {B : Type 0} (p : Program) (next : ℕ → Outcome B) →

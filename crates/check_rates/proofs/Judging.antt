@@ -1,4 +1,5 @@
 -- One read and one LINK by the tables, as the definition judges them, and the lower of two faults. Assumes nothing.
+use Rattle.std.specs.Prelude.{Result}
 use Prim.Native.Nat.{ℕ, zero, suc, ◌+◌, ◌*◌, ◌-◌, ◌≤◌, ◌<◌}
 use mathlib.Core.Bool.{Bool, true, false, cond}
 use mathlib.Core.List.{List, [], ◌∷◌}
@@ -22,7 +23,6 @@ use Rattle.text_command.specs.declared.Taken.{Taken}
 use Rattle.basics.specs.Judgement.{judgement_of}
 use Rattle.text_program.specs.Tables.{no_chain, chain_at, TablesOf, PeriodsOf, Stands, Indexes}
 use Rattle.text_program.specs.declared.Tables.{Tables}
-use Rattle.basics.specs.declared.Judged.{Judged}
 use Rattle.text_program.proofs.ByIndex.{no_link, read_at, place_is, taken_is}
 use Rattle.text_program.proofs.InTurn.{AtPlaces, within_more, single-at, singles-within, or_lower, lowest-append}
 use Rattle.text_program.proofs.Rising.{signal_places, chain_places}
@@ -116,7 +116,7 @@ module _ {text reads firsts : List ℕ} {n : ℕ} {p : Program} (ix : Indexes te
   abbrev ρ : Read
   ρ = read_at p x (i - get_or firsts x 0)
 
-  pub one-read : (r : Taken) (j : Judged) (at : ℕ) → at ≡ get_or reads i 0 → ReadTaken text at r →
+  pub one-read : (r : Taken) (j : Result (Unit {0}) Fault) (at : ℕ) → at ≡ get_or reads i 0 → ReadTaken text at r →
       j ≡ read_judged n periods at x r.kind r.operands → j ≡ judgement_of (lowest (read_faults p (signal_at p x) ρ))
   one-read r j at z h q =
       let t = taken_is ix x i lt low high r (subst (λ (k : ℕ). ReadTaken text k r) z h) in
@@ -178,7 +178,7 @@ module _ {text reads : List ℕ} {t : Tables} {p : Program} (h : Stands text rea
       pub link-inside : get_or t.starts x 0 + 4 + 2 * i + 2 ≤ length text
       link-inside = omega (arith, start_is, (link-at chain-stands.links i link-seen).2)
 
-      pub one_link : (at signal : ℕ) (j : Judged) → at ≡ get_or t.starts x 0 + 4 + 2 * i → signal ≡ get_or text (at + 1) 0 →
+      pub one_link : (at signal : ℕ) (j : Result (Unit {0}) Fault) → at ≡ get_or t.starts x 0 + 4 + 2 * i → signal ≡ get_or text (at + 1) 0 →
           j ≡ rate_judged (ltb signal t.signals) true at → j ≡ judgement_of (lowest (link_faults p l))
       one_link at signal j z w q =
           let g = link-at chain-stands.links i link-seen in

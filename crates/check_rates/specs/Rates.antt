@@ -1,5 +1,5 @@
 -- What the answers of the check stand for.
-use Rattle.std.specs.Prelude.{ℕ, Bool, true, false, cond, List, ltb, get_or}
+use Rattle.std.specs.Prelude.{Result, Ok, Err, ℕ, Bool, true, false, cond, List, ltb, get_or}
 use Rattle.model.specs.Rules.Outcome.{fault}
 use Rattle.model.specs.Rules.Program.{Program, Signal, Chain, body_reads}
 use Rattle.model.specs.Rules.Rates.{period_rule, read_faults, link_faults}
@@ -8,14 +8,12 @@ use Rattle.model.specs.declared.Fault.{Fault}
 use Rattle.model.specs.declared.Kind.{Kind}
 use Rattle.model.specs.declared.Kind.TheVariants.{Now, Last, When, LastWhen, Current}
 use Rattle.model.specs.declared.Sampled.{Sampled}
-use Rattle.basics.specs.declared.Judged.{Judged}
-use Rattle.basics.specs.declared.Judged.TheVariants as Judged
 
 -- 7 at a read or LINK of a signal that is not declared, then 8 at a read that breaks its period rule.
-unfoldable pub rate_judged : Bool → Bool → ℕ → Judged
-rate_judged true true at = Judged.Fine
-rate_judged true false at = Judged.Refused (fault 8 at)
-rate_judged false kept at = Judged.Refused (fault 7 at)
+unfoldable pub rate_judged : Bool → Bool → ℕ → Result (Unit {0}) Fault
+rate_judged true true at = Ok tt
+rate_judged true false at = Err (fault 8 at)
+rate_judged false kept at = Err (fault 7 at)
 
 -- The period of signal s in a table of 64.
 unfoldable pub period_at : List ℕ → ℕ → ℕ
@@ -30,7 +28,7 @@ factor_of LastWhen n = n
 factor_of Current n = n
 
 -- A read, by the number of signals and their periods.
-unfoldable pub read_judged : ℕ → List ℕ → ℕ → ℕ → Kind → Sampled → Judged
+unfoldable pub read_judged : ℕ → List ℕ → ℕ → ℕ → Kind → Sampled → Result (Unit {0}) Fault
 read_judged count periods at reader kind x =
     rate_judged (ltb x.signal count)
     (period_rule kind (period_at periods x.signal) (period_at periods reader) x.factor) at
@@ -50,7 +48,7 @@ abbrev pub link_rates : Program → List Fault
 link_rates p = join_from 0 (λ j c. chain_rates p c) p.chains
 
 -- The one of two refusals that has the lower place.
-unfoldable pub lower_of : Judged → Judged → Judged
-lower_of Judged.Fine b = b
-lower_of (Judged.Refused f) Judged.Fine = Judged.Refused f
-lower_of (Judged.Refused f) (Judged.Refused g) = Judged.Refused (cond (ltb g.place f.place) g f)
+unfoldable pub lower_of : Result (Unit {0}) Fault → Result (Unit {0}) Fault → Result (Unit {0}) Fault
+lower_of (Ok tt) b = b
+lower_of (Err f) (Ok tt) = Err f
+lower_of (Err f) (Err g) = Err (cond (ltb g.place f.place) g f)

@@ -19,8 +19,7 @@ ghost use Rattle.check_rates.specs.Rates.{
 };
 ghost use Rattle.basics.specs.Judgement.{judgement_of};
 
-use basics::Judged;
-use model::{Kind, Sampled, refusals};
+use model::{Fault, Kind, Refusal, Sampled};
 use text_program::Tables;
 
 // The period of a signal by the table; 0 past its end.
@@ -56,16 +55,16 @@ fn period_rule(kind: Kind, w: u8, r: u8, n: u8) -> bool
 }
 
 // 7 at a read or LINK of a signal that is not declared, then 8 at a read that breaks its period rule.
-fn judge_rate(declared: bool, kept: bool, place: usize) -> Judged
+fn judge_rate(declared: bool, kept: bool, place: usize) -> Result<(), Fault>
     ensures { result ≡ rate_judged declared kept place }
 {
     if !declared {
-        return basics::refuse(refusals::UNDECLARED_SIGNAL, place);
+        return basics::refuse(Refusal::UndeclaredSignal, place);
     }
     if !kept {
-        return basics::refuse(refusals::PERIOD_RULE_BROKEN, place);
+        return basics::refuse(Refusal::PeriodRuleBroken, place);
     }
-    Judged::Fine
+    Ok(())
 }
 
 fn judge_read(
@@ -75,7 +74,7 @@ fn judge_read(
     reader: usize,
     kind: Kind,
     operands: Sampled,
-) -> Judged
+) -> Result<(), Fault>
     ensures { result ≡ read_judged count periods.now at reader kind operands }
 {
     let signal = basics::from_byte(operands.signal);
@@ -94,25 +93,20 @@ fn judge_signal(
     count: usize,
     periods: &[u8; 64],
     reader: usize,
-) -> Judged
+) -> Result<(), Fault>
     requires { (reader < count) × (count ≤ 64) × Indexed text.now reads.now firsts.now count }
     ensures { (p : Program) → Indexes text.now reads.now firsts.now count p →
         PeriodsOf p periods.now → result ≡ judgement_of (lowest (signal_rates p (signal_at p reader))) }
 {
-    let mut i = basics::from_entry(firsts[reader]);
     let end = basics::from_entry(firsts[reader + 1]);
-    while i < end {
+    for i in basics::from_entry(firsts[reader])..end {
         let at = basics::from_entry(reads[i]);
         let taken = text_command::taken_at(text, at);
         let kind = taken.kind;
         let operands = taken.operands;
-        let judged = judge_read(count, periods, at, reader, kind, operands);
-        let Judged::Fine = judged else {
-            return judged;
-        };
-        i = i + 1;
+        judge_read(count, periods, at, reader, kind, operands)?;
     }
-    Judged::Fine
+    Ok(())
 }
 
 // The same of all signals.
@@ -122,24 +116,19 @@ fn judge_reads(
     firsts: &[u16; 65],
     count: usize,
     periods: &[u8; 64],
-) -> Judged
+) -> Result<(), Fault>
     requires { (count ≤ 64) × Indexed text.now reads.now firsts.now count }
     ensures { (p : Program) → Indexes text.now reads.now firsts.now count p →
         PeriodsOf p periods.now → result ≡ judgement_of (lowest (read_rates p)) }
 {
-    let mut reader: usize = 0;
-    while reader < count {
-        let judged = judge_signal(text, reads, firsts, count, periods, reader);
-        let Judged::Fine = judged else {
-            return judged;
-        };
-        reader = reader + 1;
+    for reader in 0..count {
+        judge_signal(text, reads, firsts, count, periods, reader)?;
     }
-    Judged::Fine
+    Ok(())
 }
 
 // The first LINK of a chain that is of an undeclared signal (7).
-fn judge_chain(text: &[u8], tables: Tables, chain: usize) -> Judged
+fn judge_chain(text: &[u8], tables: Tables, chain: usize) -> Result<(), Fault>
     requires { ((reads : List ℕ) × Standing text.now reads tables) × (chain < tables.chains) }
     ensures { (p : Program) (reads : List ℕ) → Stands text.now reads tables p →
         result ≡ judgement_of (lowest (chain_rates p (chain_at p chain))) }
@@ -148,45 +137,35 @@ fn judge_chain(text: &[u8], tables: Tables, chain: usize) -> Judged
     let lengths = tables.lengths;
     let first = basics::from_entry(starts[chain]) + width::in_program(0x12);
     let links = basics::from_byte(lengths[chain]);
-    let mut i: usize = 0;
-    while i < links {
+    for i in 0..links {
         let at = first + width::in_program(0x13) * i;
         let signal = basics::from_byte(text[at + 1]);
-        let judged = judge_rate(signal < tables.signals, true, at);
-        let Judged::Fine = judged else {
-            return judged;
-        };
-        i = i + 1;
+        judge_rate(signal < tables.signals, true, at)?;
     }
-    Judged::Fine
+    Ok(())
 }
 
 // The same of all chains.
-fn judge_links(text: &[u8], tables: Tables) -> Judged
+fn judge_links(text: &[u8], tables: Tables) -> Result<(), Fault>
     requires { (reads : List ℕ) × Standing text.now reads tables }
     ensures { (p : Program) (reads : List ℕ) → Stands text.now reads tables p →
         result ≡ judgement_of (lowest (link_rates p)) }
 {
-    let mut chain: usize = 0;
-    while chain < tables.chains {
-        let judged = judge_chain(text, tables, chain);
-        let Judged::Fine = judged else {
-            return judged;
-        };
-        chain = chain + 1;
+    for chain in 0..tables.chains {
+        judge_chain(text, tables, chain)?;
     }
-    Judged::Fine
+    Ok(())
 }
 
 // The one of two refusals that has the lower place.
-fn lower(a: Judged, b: Judged) -> Judged
+fn lower(a: Result<(), Fault>, b: Result<(), Fault>) -> Result<(), Fault>
     ensures { result ≡ lower_of a b }
 {
     match a {
-        Judged::Fine => b,
-        Judged::Refused(one) => match b {
-            Judged::Fine => a,
-            Judged::Refused(other) => {
+        Ok(()) => b,
+        Err(one) => match b {
+            Ok(()) => a,
+            Err(other) => {
                 if other.place < one.place {
                     return b;
                 }
@@ -197,7 +176,7 @@ fn lower(a: Judged, b: Judged) -> Judged
 }
 
 // 7 and 8 in order of offset.
-pub fn check_rates(text: &[u8], reads: &[u16], tables: Tables) -> Judged
+pub fn check_rates(text: &[u8], reads: &[u16], tables: Tables) -> Result<(), Fault>
     requires { Standing text.now reads.now tables }
     ensures { (p : Program) → Stands text.now reads.now tables p →
         result ≡ judgement_of (declared_and_rated p) }

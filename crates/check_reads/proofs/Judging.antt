@@ -1,4 +1,5 @@
 -- One read by the tables, as the definition judges it. Assumes nothing.
+use Rattle.std.specs.Prelude.{Result, Ok, Err}
 use Prim.Native.Nat.{ℕ, ◌+◌, ◌-◌, ◌≤◌, ◌<◌}
 use mathlib.Core.Bool.{Bool, true, false, cond}
 use mathlib.Core.List.{List, [], ◌∷◌}
@@ -21,8 +22,6 @@ use Rattle.model.proofs.Pairs.Verdict.{Rated, reads-rated}
 use Rattle.text_command.specs.Operator.{ReadTaken}
 use Rattle.text_command.specs.declared.Taken.{Taken}
 use Rattle.text_program.specs.Tables.{PeriodsOf, SlotsOf, Indexes}
-use Rattle.basics.specs.declared.Judged.{Judged}
-use Rattle.basics.specs.declared.Judged.TheVariants as Judged
 use Rattle.basics.specs.Judgement.{judgement_of}
 use Rattle.text_program.proofs.ByIndex.{no_read, read_at, rate-is, seen, place_is, taken_is}
 use Rattle.text_program.proofs.InTurn.{AtPlaces, single-at, singles-within}
@@ -68,7 +67,7 @@ module _ (p : Program) (s : Schedule) where
     judged-met r ρ lr lw =
         rw (lt-ltb ρ.operands.signal (count p) lw, lt-ltb r (count p) lr, ← (met-is r ρ lr lw)) (go (is_met p s r ρ))
       where
-        go : (b : Bool) → cond b Judged.Fine (Judged.Refused (fault 14 ρ.place)) ≡
+        go : (b : Bool) → cond b (Ok tt) (Err (fault 14 ρ.place)) ≡
             judgement_of (lowest (cond b [] (fault 14 ρ.place ∷ [])))
         go true = refl
         go false = refl
@@ -105,7 +104,7 @@ module _ {text reads firsts : List ℕ} {n : ℕ} {p : Program} (ix : Indexes te
         reader-below = below x lt;
       }
 
-  pub one-read : (r : Taken) (j : Judged) (at : ℕ) → at ≡ get_or reads i 0 → ReadTaken text at r →
+  pub one-read : (r : Taken) (j : Result (Unit {0}) Fault) (at : ℕ) → at ≡ get_or reads i 0 → ReadTaken text at r →
       (PacedAt periods phases x r.kind r.operands → j ≡ read_met periods phases ranks n at x r.kind r.operands) →
       j ≡ judgement_of (lowest (read_fault p s x ρ))
   one-read r j at z h q =

@@ -1,5 +1,5 @@
 -- The judgement of a read by the tables of periods, phases and ranks.
-use Rattle.std.specs.Prelude.{ℕ, ◌<◌, Bool, cond, List, [], ◌∷◌, ◌≡◌, ltb, get_or}
+use Rattle.std.specs.Prelude.{Result, Ok, Err, ℕ, ◌<◌, Bool, cond, List, [], ◌∷◌, ◌≡◌, ltb, get_or}
 use Rattle.model.specs.Rules.Outcome.{Outcome, accepted, fault}
 use Rattle.model.specs.Rules.Program.{Program, signal_at, body_reads}
 use Rattle.model.specs.Rules.Rates.{declared_and_rated}
@@ -11,8 +11,6 @@ use Rattle.model.specs.declared.Kind.{Kind}
 use Rattle.model.specs.declared.Sampled.{Sampled}
 use Rattle.basics.specs.Judgement.{judgement_of}
 use Rattle.text_program.specs.Tables.{PeriodsOf, SlotsOf, rate_at}
-use Rattle.basics.specs.declared.Judged.{Judged}
-use Rattle.basics.specs.declared.Judged.TheVariants as Judged
 use Rattle.read_rule.specs.Lines.{Paced}
 use Rattle.read_rule.specs.Reads.{met_by}
 use Rattle.read_rule.specs.declared.Timing.{Timing}
@@ -34,18 +32,18 @@ is_met_at periods phases ranks r kind x =
     met_by kind x (rate_at periods phases x.signal) (rate_at periods phases r) (ltb (get_or ranks x.signal 0) (get_or ranks r 0))
 
 -- A read at `at` in the equation of r, of n signals. What is not declared is another check's.
-unfoldable pub read_met : List ℕ → List ℕ → List ℕ → ℕ → ℕ → ℕ → Kind → Sampled → Judged
+unfoldable pub read_met : List ℕ → List ℕ → List ℕ → ℕ → ℕ → ℕ → Kind → Sampled → Result (Unit {0}) Fault
 read_met periods phases ranks n at r kind x =
     cond (ltb x.signal n)
-    (cond (ltb r n) (cond (is_met_at periods phases ranks r kind x) Judged.Fine (Judged.Refused (fault 14 at))) Judged.Fine)
-    Judged.Fine
+    (cond (ltb r n) (cond (is_met_at periods phases ranks r kind x) (Ok tt) (Err (fault 14 at))) (Ok tt))
+    (Ok tt)
 
 -- The faults of the reads of signal r that are not met.
 abbrev pub unmet : Program → Schedule → ℕ → List Fault
 unmet p s r = join_from 0 (λ i ρ. cond (is_met p s r ρ) [] (fault 14 ρ.place ∷ [])) (body_reads (signal_at p r).body)
 
 -- The answer is the definition's, for any schedule whose tables these are.
-abbrev pub MetAs : Program → List ℕ → List ℕ → List ℕ → (Schedule → Outcome (Unit {0})) → Judged → Type 0
+abbrev pub MetAs : Program → List ℕ → List ℕ → List ℕ → (Schedule → Outcome (Unit {0})) → Result (Unit {0}) Fault → Type 0
 MetAs p periods phases ranks verdict r =
     (s : Schedule) (order : List ℕ) → declared_and_rated p ≡ accepted tt → PeriodsOf p periods → SlotsOf p s order phases ranks →
     r ≡ judgement_of (verdict s)

@@ -8,14 +8,13 @@ ghost use Rattle.model.specs.Rules.Reads.{met};
 ghost use Rattle.model.specs.Rules.Schedule.{Schedule};
 ghost use Rattle.basics.specs.Judgement.{judgement_of};
 ghost use Rattle.text_program.specs.Tables.{Indexes, Indexed};
-ghost use Rattle.text_schedule.specs.Arranged.{Arranged, Arrangement, pair_tables};
+ghost use Rattle.text_schedule.specs.Arranged.{Arranged, Arrangement};
 ghost use Rattle.check_reads.specs.Met.{Below, PacedAt, read_met, unmet, MetAs};
 
-use basics::Judged;
-use model::{Kind, Sampled, refusals};
+use model::{Fault, Kind, Refusal, Sampled};
 use read_rule::Timing;
 use text_program::Tables;
-use text_schedule::Slots;
+use text_schedule::PairTables;
 
 // One read in the equation of `reader`.
 fn read_met(
@@ -27,17 +26,17 @@ fn read_met(
     reader: usize,
     kind: Kind,
     operands: Sampled,
-) -> Judged
+) -> Result<(), Fault>
     requires { signals ≤ 64 }
     ensures { PacedAt periods.now phases.now reader kind operands →
         result ≡ read_met periods.now phases.now ranks.now signals at reader kind operands }
 {
     let read = operands.signal as usize;
     if signals <= read {
-        return Judged::Fine;
+        return Ok(());
     }
     if signals <= reader {
-        return Judged::Fine;
+        return Ok(());
     }
     let w = Timing {
         period: periods[read],
@@ -49,9 +48,9 @@ fn read_met(
     };
     let before = ranks[read] < ranks[reader];
     if read_rule::is_met(kind, operands, w, r, before) {
-        return Judged::Fine;
+        return Ok(());
     }
-    basics::refuse(refusals::READ_UNMET, at)
+    basics::refuse(Refusal::ReadUnmet, at)
 }
 
 // 14 at the lowest offset of a signal's reads, which go by their index in the table.
@@ -64,26 +63,21 @@ fn signal_met(
     phases: &[u8; 64],
     ranks: &[u8; 64],
     reader: usize,
-) -> Judged
+) -> Result<(), Fault>
     requires { (reader < signals) × (signals ≤ 64) × Below periods.now phases.now signals ×
         Indexed text.now reads.now firsts.now signals }
     ensures { (p : Program) → Indexes text.now reads.now firsts.now signals p →
         MetAs p periods.now phases.now ranks.now (λ s. lowest (unmet p s reader)) result }
 {
-    let mut i = basics::from_entry(firsts[reader]);
     let end = basics::from_entry(firsts[reader + 1]);
-    while i < end {
+    for i in basics::from_entry(firsts[reader])..end {
         let at = basics::from_entry(reads[i]);
         let taken = text_command::taken_at(text, at);
         let kind = taken.kind;
         let operands = taken.operands;
-        let judged = read_met(signals, periods, phases, ranks, at, reader, kind, operands);
-        let Judged::Fine = judged else {
-            return judged;
-        };
-        i = i + 1;
+        read_met(signals, periods, phases, ranks, at, reader, kind, operands)?;
     }
-    Judged::Fine
+    Ok(())
 }
 
 // 14 at the lowest read offset.
@@ -95,47 +89,31 @@ fn reads_met(
     periods: &[u8; 64],
     phases: &[u8; 64],
     ranks: &[u8; 64],
-) -> Judged
+) -> Result<(), Fault>
     requires { (signals ≤ 64) × Below periods.now phases.now signals ×
         Indexed text.now reads.now firsts.now signals }
     ensures { (p : Program) → Indexes text.now reads.now firsts.now signals p →
         MetAs p periods.now phases.now ranks.now (λ s. met p s) result }
 {
-    let mut reader: usize = 0;
-    while reader < signals {
-        let judged = signal_met(text, reads, firsts, signals, periods, phases, ranks, reader);
-        let Judged::Fine = judged else {
-            return judged;
-        };
-        reader = reader + 1;
+    for reader in 0..signals {
+        signal_met(text, reads, firsts, signals, periods, phases, ranks, reader)?;
     }
-    Judged::Fine
+    Ok(())
 }
 
 // 14 of a pair by its tables.
-pub fn check_reads(
-    text: &[u8],
-    reads: &[u16],
-    tables: Tables,
-    slots: Slots,
-    hypercycle: usize,
-) -> Judged
-    requires { Arrangement text.now reads.now (pair_tables tables slots hypercycle) }
-    ensures { (p : Program) (s : Schedule) →
-        Arranged text.now reads.now (pair_tables tables slots hypercycle) p s →
+pub fn check_reads(text: &[u8], reads: &[u16], pair: &PairTables) -> Result<(), Fault>
+    requires { Arrangement text.now reads.now pair.now }
+    ensures { (p : Program) (s : Schedule) → Arranged text.now reads.now pair.now p s →
         result ≡ judgement_of (met p s) }
 {
-    let firsts = tables.firsts;
-    let periods = tables.periods;
-    let phases = slots.phases;
-    let ranks = slots.ranks;
     reads_met(
         text,
         reads,
-        &firsts,
-        tables.signals,
-        &periods,
-        &phases,
-        &ranks,
+        &pair.tables.firsts,
+        pair.tables.signals,
+        &pair.tables.periods,
+        &pair.slots.phases,
+        &pair.slots.ranks,
     )
 }

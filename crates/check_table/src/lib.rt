@@ -7,7 +7,7 @@ ghost use Rattle.model.specs.Rules.Program.{Program};
 ghost use Rattle.basics.specs.Judgement.{judgement_of};
 ghost use Rattle.text_program.specs.Tables.{Stands, Standing};
 
-use basics::Judged;
+use model::Fault;
 use text_program::Tables;
 
 // Whether there is a row or a TABLE.
@@ -21,14 +21,14 @@ fn is_some(rows: usize, lookups: usize) -> bool
 }
 
 // 29 at the first row that meets an earlier one, then 30. A program with neither rows nor TABLEs passes.
-pub fn check_table(text: &[u8], tables: Tables) -> Judged
+pub fn check_table(text: &[u8], tables: Tables) -> Result<(), Fault>
     requires { (reads : List ℕ) × Standing text.now reads tables }
     ensures { (p : Program) (reads : List ℕ) → Stands text.now reads tables p →
         result ≡ judgement_of (tabled p) }
 {
     let count = tables.rows;
     if !is_some(count, tables.lookups) {
-        return Judged::Fine;
+        return Ok(());
     }
     let offsets = tables.offsets;
     rows::check_rows(text, &offsets, count)

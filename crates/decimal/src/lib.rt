@@ -41,13 +41,9 @@ pub fn put_line(out: &mut [u8], number: u32, words: &[i32]) -> usize
     ensures { PutBytes out.old 0 (line_of number words.now) out.new result }
 {
     let mut at = put_natural(out, 0, number);
-    let mut i: usize = 0;
-    while i < words.len() {
-        let w = words[i];
+    for &w in words {
         out[at] = 32;
-        let next = at + 1;
-        at = put_decimal(out, next, w);
-        i = i + 1;
+        at = put_decimal(out, at + 1, w);
     }
     out[at] = 10;
     at + 1

@@ -6,26 +6,12 @@ ghost use Rattle.model.specs.Rules.Dependents.{any_read, mark_readers, mark_byte
 ghost use Rattle.model.specs.Rules.Machine.{Does, ran_of};
 ghost use Rattle.model.specs.Rules.Program.{Program, signal_at, body_reads};
 ghost use Rattle.model.specs.Rules.Script.{is_input_of};
-ghost use Rattle.model.specs.declared.Fault.{Fault};
 ghost use Rattle.text_program.specs.Tables.{Stands, Standing, Indexes};
 ghost use Rattle.check_pair.specs.Checked.{Spacious};
 ghost use Rattle.dependents.specs.Marks.{is_marked, MarksBy, ReadsDeclared};
 
-use basics::Judged;
-use model::{Fault, Ran, refusals};
+use model::{Fault, Refusal};
 use text_program::Tables;
-
-fn refused(judged: Judged) -> Ran
-    ensures { (f : Fault) → judged ≡ Judged.Refused f → result ≡ Ran.Refused f }
-{
-    match judged {
-        Judged::Fine => Ran::Refused(Fault {
-            number: refusals::TEXT_TOO_LONG,
-            place: 0,
-        }),
-        Judged::Refused(fault) => Ran::Refused(fault),
-    }
-}
 
 // Whether signal x of a program that is read is an IN.
 fn is_input(text: &[u8], tables: Tables, x: usize) -> bool
@@ -65,9 +51,8 @@ fn mark_of(
     ensures { (p : Program) (n : ℕ) → Indexes text.now reads.now firsts.now n p →
         reader < n → result ≡ mark_byte (any_read (is_marked marks.now input) (body_reads (signal_at p reader).body)) }
 {
-    let mut i = basics::from_entry(firsts[reader]);
     let end = basics::from_entry(firsts[reader + 1]);
-    while i < end {
+    for i in basics::from_entry(firsts[reader])..end {
         let at = basics::from_entry(reads[i]);
         let taken = text_command::taken_at(text, at);
         let operands = taken.operands;
@@ -75,7 +60,6 @@ fn mark_of(
         if is_marked(marks, input, signal) {
             return 1;
         }
-        i = i + 1;
     }
     0
 }
@@ -94,10 +78,8 @@ fn mark_readers(
         (bs : List Bool) → MarksBy bs old.now → MarksBy (mark_readers p input bs) result }
 {
     let mut marks: [u8; 64] = [0; 64];
-    let mut reader: usize = 0;
-    while reader < signals {
+    for reader in 0..signals {
         marks[reader] = mark_of(text, reads, firsts, old, input, reader);
-        reader = reader + 1;
     }
     marks
 }
@@ -115,10 +97,8 @@ fn mark_all(
         result ≡ mark_bytes p input }
 {
     let mut marks: [u8; 64] = [0; 64];
-    let mut round: usize = 0;
-    while round < signals {
+    for round in 0..signals {
         marks = mark_readers(text, reads, firsts, signals, &marks, input);
-        round = round + 1;
     }
     marks
 }
@@ -130,59 +110,50 @@ fn dependents_with(
     input: usize,
     reads: &mut [u16],
     marks: &mut [u8; 64],
-) -> Ran
+) -> Result<(), Fault>
     requires { Spacious (length program.now) (length reads.old) }
     ensures { Does
         (dependents_of program.now schedule.now input marks.old)
         (ran_of result) marks.new }
 {
-    let checked = check_pair::check_with(program, schedule, reads);
-    let judged = checked.judged;
-    let Judged::Fine = judged else {
-        return refused(judged);
-    };
-    let pair = checked.pair;
-    let tables = pair.tables;
+    let tables = check_pair::check_with(program, schedule, reads)?.tables;
     if !is_input(program, tables, input) {
-        return Ran::Refused(Fault {
-            number: refusals::NO_INPUT,
-            place: 0,
-        });
+        return basics::refuse(Refusal::NoInput, 0);
     }
-    let firsts = tables.firsts;
-    *marks = mark_all(program, reads, &firsts, tables.signals, input);
-    Ran::Done
+    *marks = mark_all(program, reads, &tables.firsts, tables.signals, input);
+    Ok(())
 }
 
-// A program of at most 512 bytes, as its checks take one.
-fn dependents_short(program: &[u8], schedule: &[u8], input: usize, marks: &mut [u8; 64]) -> Ran
-    requires { length program.now ≤ 512 }
+// With a table of ROOM entries: filling one for the longest program would take longer than the checks of a short one.
+fn dependents_in<const ROOM: usize>(
+    program: &[u8],
+    schedule: &[u8],
+    input: usize,
+    marks: &mut [u8; 64],
+) -> Result<(), Fault>
+    requires { Spacious (length program.now) ROOM × (ROOM ≤ 4096) }
     ensures { Does
         (dependents_of program.now schedule.now input marks.old)
         (ran_of result) marks.new }
 {
-    let mut reads: [u16; 256] = [0; 256];
-    dependents_with(program, schedule, input, &mut reads, marks)
-}
-
-fn dependents_long(program: &[u8], schedule: &[u8], input: usize, marks: &mut [u8; 64]) -> Ran
-    ensures { Does
-        (dependents_of program.now schedule.now input marks.old)
-        (ran_of result) marks.new }
-{
-    let mut reads: [u16; 4096] = [0; 4096];
+    let mut reads: [u16; ROOM] = [0; ROOM];
     dependents_with(program, schedule, input, &mut reads, marks)
 }
 
 // Marks by 1 each signal of an accepted pair that depends on an input, and by 0 every other of the 64. A refused call leaves the
 // marks as they were.
-pub fn dependents(program: &[u8], schedule: &[u8], input: usize, marks: &mut [u8; 64]) -> Ran
+pub fn dependents(
+    program: &[u8],
+    schedule: &[u8],
+    input: usize,
+    marks: &mut [u8; 64],
+) -> Result<(), Fault>
     ensures { Does
         (dependents_of program.now schedule.now input marks.old)
         (ran_of result) marks.new }
 {
     if program.len() <= 512 {
-        return dependents_short(program, schedule, input, marks);
+        return dependents_in::<256>(program, schedule, input, marks);
     }
-    dependents_long(program, schedule, input, marks)
+    dependents_in::<4096>(program, schedule, input, marks)
 }

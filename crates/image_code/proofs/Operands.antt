@@ -14,9 +14,8 @@ use Rattle.model.specs.Rules.Command.{operator_at}
 use Rattle.model.specs.Rules.Image.{expr_code}
 use Rattle.model.specs.Rules.Program.{least_factor, Expr}
 use Rattle.model.specs.Rules.Report.{expr_commands, expr_height}
-use Rattle.model.specs.Rules.Word.{byte_at, word_bytes, four_bytes}
+use Rattle.model.specs.Rules.Word.{word_bytes, four_bytes}
 use Rattle.model.specs.declared.Operator.{Operator}
-use Rattle.model.specs.declared.Operator.TheVariants as Operator
 use Rattle.model.specs.Says.Grammar.{depth}
 use Rattle.model.proofs.Texts.Legal.{read-width}
 use Rattle.model.proofs.Images.Bounds.{depth-some}
@@ -26,7 +25,6 @@ use Rattle.model.proofs.Images.Bounds.{height-some}
 use Rattle.model.proofs.Images.Stretches.{sets-append}
 use Rattle.model.proofs.Texts.Written.{operator-decoded}
 use Rattle.model.specs.Says.Grammar.{Spells}
-use Rattle.model.specs.Says.Written.{OperatorWritten}
 use Rattle.text_command.specs.Operator.{operands_of, OperatorStands}
 use Rattle.image_code.specs.Code.{Puts, SpellsAll, none, more, code_of_all, NestsIn, Rooms, EmitsAll}
 use Rattle.image_code.specs.Shape.{Lead, no_lead, lead_of}

@@ -6,7 +6,6 @@ use Rattle.model.specs.Rules.Image.{binary_byte, unary_byte}
 use Rattle.model.specs.Rules.Width.{in_expression, read_width}
 use Rattle.model.specs.Rules.Word.{word_bytes}
 use Rattle.model.specs.declared.Operator.{Operator}
-use Rattle.model.specs.declared.Operator.TheVariants as Operator
 
 pub record Lead : Type 0 where
   -- whether the command is an operator or a leaf

@@ -18,7 +18,7 @@ pub struct Emitted {
     pub end: usize,
 }
 
-// The byte of an operator with two operands.
+// The byte of an operator with two operands. A function: an impl of `From` stands with its type, and `model` has no code.
 fn binary_byte(operator: Binary) -> u8
     ensures { result ≡ binary_byte operator }
 {
@@ -52,7 +52,7 @@ fn put_push(out: &mut [u8], to: usize, w: i32, next: usize) -> Emitted
     let operand = to + 1;
     word::put_word(out, operand, w);
     Emitted {
-        next: next,
+        next,
         end: to + width::in_code(0x50),
     }
 }
@@ -65,7 +65,7 @@ pub fn put_access(out: &mut [u8], to: usize, code: u8, signal: u8, next: usize) 
     out[to] = code;
     out[to + 1] = signal;
     Emitted {
-        next: next,
+        next,
         end: to + width::in_code(0x51),
     }
 }
@@ -132,8 +132,7 @@ pub fn emit_expressions(
         out.new.now result.next result.end }
 {
     let mut done = Emitted { next: at, end: to };
-    let mut left = number;
-    while 0 < left {
+    for i in 0..number {
         let here = done.next;
         let from = done.end;
         let operator = text_command::operator_at(*text, here);
@@ -145,7 +144,6 @@ pub fn emit_expressions(
             let before = emit_expressions(text, operands, first, depth - 1, out, from);
             put_operator(*out, before, operator_byte(operator))
         };
-        left = left - 1;
     }
     done
 }

@@ -29,6 +29,9 @@ module _ {lent image : List ℕ} (l : Lends lent image) where
         let e = l.judged ∙ f in
         ap length (l.part f) ∙ sym (stated-length (lent-formed lent e) (lent-bears lent e))
 
+    pub rest_from : tail_in lent ≡ accepted (drop (length image) lent)
+    rest_from = rest-is ∙ ap (λ (k : ℕ). accepted (drop k lent)) (sym length-is)
+
     pub inside : length image ≤ length lent
     unfolding image_part
     inside = omega (arith, ap length (l.part f), length-take (stated_length lent) lent)

@@ -4,14 +4,14 @@
 ghost use Rattle.std.specs.Prelude.{◌≡◌, true, ℕ, ◌+◌, ◌<◌, ◌≤◌, ltb, length, take};
 ghost use Rattle.model.specs.Rules.Machine.{hyper_of, count_of, stated_length, list_offset, table_offset, row_count, code_offset};
 ghost use Rattle.model.specs.Rules.Machine.{head_ok, lists_ok, table_ok, entries_ok, codes_ok, well_formed};
-ghost use Rattle.image_valid.specs.Lends.{Lends};
+ghost use Rattle.image_valid.specs.Lends.{Lends, tail_of};
 ghost use Rattle.image_valid.specs.Walk.{ends_code, past_own, WithTables, CursorOk, Advances};
 ghost use Rattle.model.specs.Rules.Outcome.{yielded_of};
 ghost use Rattle.model.specs.Rules.Search.{all_below};
 ghost use Rattle.model.specs.Rules.Tail.{tail_in, length_of_tail, stretch_in};
 ghost use Rattle.model.specs.Rules.Word.{byte_at, two_at};
 
-use model::{Fault, Yielded, refusals};
+use model::{Fault, Refusal};
 
 fn offset_at(image: &[u8], at: usize) -> usize
     requires { at + 2 ≤ length image.now }
@@ -89,14 +89,12 @@ fn lists_ok(image: &[u8], n: usize, h: usize) -> bool
     if last != image_layout::lists_at(n, h) {
         return false;
     }
-    let mut c: usize = 0;
-    while c < h {
+    for c in 0..h {
         let next = list_offset(image, n, c + 1);
         if next < last {
             return false;
         }
         last = next;
-        c = c + 1;
     }
     last <= image.len()
 }
@@ -120,13 +118,8 @@ fn greatest_byte(list: &[u8]) -> u8
         all_below (length list.now) (λ i. ltb (byte_at list.now i) n) ≡ ltb result n }
 {
     let mut most: u8 = 0;
-    let mut i: usize = 0;
-    while i < list.len() {
-        let x = list[i];
-        if most < x {
-            most = x;
-        }
-        i = i + 1;
+    for x in list {
+        most = most.max(*x);
     }
     most
 }
@@ -209,10 +202,9 @@ fn advance(image: &[u8], n: u8, shapes: &[u8; 256], ceilings: &[u8; 256], cursor
     ensures { Advances image.now cursor result × (cursor.at < result.at) }
 {
     let at = cursor.at;
-    let height = image_valid_code::after(image, at, cursor.height, shapes, ceilings);
-    if 32 < height {
+    let Some(height) = image_valid_code::after(image, at, cursor.height, shapes, ceilings) else {
         return past_own(image, n, cursor);
-    }
+    };
     let next = at + image_valid_code::command_bytes(image[at]);
     Cursor {
         at: next,
@@ -221,7 +213,7 @@ fn advance(image: &[u8], n: u8, shapes: &[u8; 256], ceilings: &[u8; 256], cursor
     }
 }
 
-// From a command up to an offset, or past it.
+// From a command up to an offset, or past it. A `while`: how far a step goes is known only when the command is read.
 fn advance_to(
     image: &[u8],
     n: u8,
@@ -306,7 +298,8 @@ pub fn well_formed(image: &[u8]) -> bool
     codes_ok(image, n, 0 < rows)
 }
 
-// L, where what is lent has exactly L or exactly L + 4N bytes, and else 0.
+// L, where what is lent has exactly L or exactly L + 4N bytes. Else 0: an empty image is judged like any other, so that an Option
+// would be no plainer.
 fn image_length(lent: &[u8]) -> usize
     ensures { (result ≤ length lent.now) × Lends lent.now (take result lent.now) }
 {
@@ -333,47 +326,31 @@ pub fn image_in(lent: &[u8]) -> &[u8]
     &lent[..length]
 }
 
-// How long the tail of what is lent is, 0 for an image without one; or the refusal.
-pub fn tail_length(lent: &[u8]) -> Yielded
-    ensures { yielded_of result ≡ length_of_tail (tail_in lent.now) }
+// The tail of what is lent: a stretch of it, empty for an image without a tail; or the refusal.
+pub fn read_tail<'a>(lent: &'a [u8]) -> Result<&'a [u8], Fault>
+    ensures { tail_of result ≡ tail_in lent.now }
 {
     let image = image_in(lent);
     if !well_formed(image) {
-        return Yielded::Refused(Fault {
-            number: refusals::IMAGE_NOT_WELL_FORMED,
-            place: 0,
-        });
+        return basics::refuse(Refusal::ImageNotWellFormed, 0);
     }
-    Yielded::Number(lent.len() - image.len())
+    Ok(&lent[image.len()..])
 }
 
-// The tail of what is lent: a stretch of it, empty for an image without a tail and where `tail_length` refuses.
+// How long the tail of what is lent is, 0 for an image without one; or the refusal.
+pub fn tail_length(lent: &[u8]) -> Result<usize, Fault>
+    ensures { yielded_of result ≡ length_of_tail (tail_in lent.now) }
+{
+    let tail = read_tail(lent)?;
+    Ok(tail.len())
+}
+
+// The tail of what is lent, empty also where `read_tail` refuses.
 pub fn tail<'a>(lent: &'a [u8]) -> &'a [u8]
     ensures { result.now ≡ stretch_in (tail_in lent.now) }
 {
-    let length = tail_length(lent);
-    let Yielded::Number(n) = length else {
+    let Ok(tail) = read_tail(lent) else {
         return &lent[lent.len()..];
     };
-    let start = lent.len() - n;
-    &lent[start..]
-}
-
-// The tail of an image: the stretch of what is lent, empty for an image without one and where it is refused; and its length, or
-// the refusal.
-#[derive(Clone, Copy)]
-pub struct TailRead<'a> {
-    pub stretch: &'a [u8],
-    pub length: Yielded,
-}
-
-// The tail as one answer by value. `tail` and `tail_length` of crate larderlate are the same two answers, one by one.
-pub fn read_tail<'a>(lent: &'a [u8]) -> TailRead<'a>
-    ensures { (result.stretch.now ≡ stretch_in (tail_in lent.now)) ×
-        (yielded_of result.length ≡ length_of_tail (tail_in lent.now)) }
-{
-    TailRead {
-        stretch: tail(lent),
-        length: tail_length(lent),
-    }
+    tail
 }

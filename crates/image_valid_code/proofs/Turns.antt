@@ -11,7 +11,6 @@ use lib.ListN.{length}
 use Rattle.model.specs.Rules.Machine.{operator_code, whole_code, code_at, command_ok, code_ok_from}
 use Rattle.model.specs.Rules.Word.{byte_at, word_at}
 use Rattle.model.specs.declared.Code.{Code}
-use Rattle.model.specs.declared.Code.TheVariants as Code
 use Rattle.model.proofs.Basics.Tests.{by}
 use Rattle.image_valid_code.specs.Shape.{shape_of, ceiling_of, command_bytes, height_after, fetch_of, last_of}
 

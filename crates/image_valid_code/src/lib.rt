@@ -2,7 +2,7 @@
 // command.
 #![tactic(auto)]
 
-ghost use Rattle.std.specs.Prelude.{false, ◌≡◌, ◌+◌, ◌<◌, ◌≤◌, length};
+ghost use Rattle.std.specs.Prelude.{false, ◌≡◌, ◌+◌, ◌<◌, ◌≤◌, length, IfSome, unwrap_or};
 ghost use Rattle.image_valid_code.specs.Shape.{Shapes, Ceilings, command_bytes, after_of, fetch_of, last_of};
 ghost use Rattle.model.specs.Rules.Word.{byte_at};
 
@@ -20,9 +20,6 @@ const THREE_OPERANDS: u8 = 62;
 
 // No command, or FETCH and STORE, which name their own signal.
 const NO_SHAPE: u8 = 0;
-
-// More words than the stack may hold: the command may not stand where it does.
-const TOO_HIGH: usize = 33;
 
 // The shape of each byte, in an image without rows.
 fn plain_shapes() -> [u8; 256]
@@ -78,26 +75,33 @@ pub fn command_bytes(byte: u8) -> usize
     width::in_code(0x51)
 }
 
-// The words on the stack after the command at `at`, where it held h; TOO_HIGH where it has no shape or may not stand there.
-pub fn after(code: &[u8], at: usize, h: usize, shapes: &[u8; 256], ceilings: &[u8; 256]) -> usize
+// The words on the stack after the command at `at`, where it held h; none where it has no shape or may not stand there.
+pub fn after(
+    code: &[u8],
+    at: usize,
+    h: usize,
+    shapes: &[u8; 256],
+    ceilings: &[u8; 256],
+) -> Option<usize>
     requires { (at + 1 < length code.now) × (h ≤ 32) }
-    ensures { (result ≡ after_of shapes.now ceilings.now (byte_at code.now at)
-        (byte_at code.now (at + 1)) h)
-        × (byte_at code.now at < 256) × (byte_at code.now (at + 1) < 256) }
+    ensures words { unwrap_or result 33 ≡
+        after_of shapes.now ceilings.now (byte_at code.now at) (byte_at code.now (at + 1)) h }
+    ensures within { IfSome result (λ words. words ≤ 32) }
+    ensures bytes { (byte_at code.now at < 256) × (byte_at code.now (at + 1) < 256) }
 {
     let byte = basics::from_byte(code[at]);
     let x = basics::from_byte(code[at + 1]);
     let next = h + basics::from_byte(shapes[byte]);
     if next <= LEVEL {
-        return TOO_HIGH;
+        return None;
     }
     if LEVEL + 32 < next {
-        return TOO_HIGH;
+        return None;
     }
     if basics::from_byte(ceilings[byte]) < x {
-        return TOO_HIGH;
+        return None;
     }
-    next - LEVEL
+    Some(next - LEVEL)
 }
 
 // FETCH of the own signal, where the stack has room for a word.

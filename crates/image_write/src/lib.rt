@@ -39,11 +39,9 @@ fn count_runs(
     ensures { RunsCounted periods.now order.now phases.now n h result }
 {
     let mut counts: [u32; 240] = [0; 240];
-    let mut i: usize = 0;
-    while i < n {
+    for i in 0..n {
         let x = basics::from_byte(order[i]);
         runs::add_runs(&mut counts, periods[x], phases[x], 1, h);
-        i = i + 1;
     }
     counts
 }
@@ -71,11 +69,9 @@ fn lists_length(
     ensures { result ≡ length (joined (lists_by periods.now order.now phases.now n h)) }
 {
     let mut total: usize = 0;
-    let mut i: usize = 0;
-    while i < n {
+    for i in 0..n {
         let runs = run_count(periods, phases, order[i], h);
         total = total + runs;
-        i = i + 1;
     }
     total
 }
@@ -96,13 +92,10 @@ fn emit_runs(
         WritesRuns (record { period = period; phase = phase }) x h to out.old nexts.old
         out.new nexts.new }
 {
-    let step = basics::from_byte(period);
-    let mut c = basics::from_byte(phase);
-    while c < h {
+    for c in (basics::from_byte(phase)..h).step_by(basics::from_byte(period)) {
         let at = basics::from_entry(nexts[c]);
         out[to + at] = x;
         nexts[c] = (at + 1) as u16;
-        c = c + step;
     }
 }
 
@@ -123,12 +116,10 @@ pub fn emit_lists(
     ensures { Wrote out.old to
         (joined (lists_by periods.now order.now phases.now n h)) out.new result }
 {
-    let mut i: usize = 0;
-    while i < n {
+    for i in 0..n {
         let x = order[i];
         let signal = basics::from_byte(x);
         emit_runs(nexts, x, periods[signal], phases[signal], h, out, to);
-        i = i + 1;
     }
     let size = basics::from_entry(nexts[h]);
     to + size
@@ -169,13 +160,11 @@ pub fn emit_offsets(
     let counts = count_runs(periods, order, phases, n, h);
     let mut before: usize = 0;
     let mut end = to;
-    let mut c: usize = 0;
-    while c < h {
+    for c in 0..h {
         starts[c] = before as u16;
         end = put_offset(out, end, start + before);
         let runs = from_count(counts[c]);
         before = before + runs;
-        c = c + 1;
     }
     starts[h] = before as u16;
     put_offset(out, end, start + before)
@@ -199,12 +188,10 @@ fn emit_codes(text: &[u8], places: &[u16; 64], n: usize, out: &mut [u8], to: usi
     ensures { Wrote out.old to (joined (codes_from 0 (declared_by text.now))) out.new result }
 {
     let mut end = to;
-    let mut x: usize = 0;
-    while x < n {
+    for x in 0..n {
         let signal = basics::to_byte(x);
         let place = basics::from_entry(places[x]);
         end = image_code::emit_signal(text, place, signal, out, end);
-        x = x + 1;
     }
     end
 }
@@ -240,12 +227,10 @@ fn emit_records(
         out.new result }
 {
     let mut end = to;
-    let mut x: usize = 0;
-    while x < n {
+    for x in 0..n {
         let code = basics::from_entry(codes[x]);
         let place = basics::from_entry(places[x]);
         end = put_record(text, place, start + code, out, end);
-        x = x + 1;
     }
     end
 }
@@ -290,10 +275,10 @@ pub fn lay_out_code(
     let end = code + size;
     let written = end + 4 * n;
     Layout {
-        lists: lists,
-        code: code,
-        end: end,
-        written: written,
+        lists,
+        code,
+        end,
+        written,
     }
 }
 
@@ -378,9 +363,7 @@ pub fn emit_tail(
         sets out.old to (tail_by labels.now periods.now phases.now n) }
 {
     let mut end = to;
-    let mut x: usize = 0;
-    while x < n {
+    for x in 0..n {
         end = put_entry(labels[x], periods[x], phases[x], out, end);
-        x = x + 1;
     }
 }

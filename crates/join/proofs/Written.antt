@@ -1,4 +1,5 @@
 -- The image by the tables of an accepted join is that of its pair. Assumes nothing.
+use Rattle.std.specs.Prelude.{Option}
 use Prim.Native.Nat.{ℕ, ◌+◌, ◌*◌, ◌≤◌}
 use mathlib.Core.Bool.{◌&&◌, and-eq-true_iff}
 use mathlib.Core.List.{List, ◌∷◌, ◌++◌, map, append_assoc}
@@ -201,14 +202,14 @@ module _ {texts numbers links : List ℕ} {r : Verdict} (ready : JoinReady texts
         }
 
     -- With the sources of the linked INs.
-    module _ (sources : List ℕ) (sourced : SourcesBy (wires_by links t.bases) sources) where
+    module _ (sources : List (Option ℕ)) (sourced : SourcesBy (wires_by links t.bases) sources) where
       by-wires : SourcesBy wires sources
       by-wires = subst (λ (ws : List Wire). SourcesBy ws sources) (sym (wires-are joining few)) sourced
 
       abbrev starts : ℕ
       starts = joint_codes_at texts numbers t r.table sources h
 
-      coded : joint_codes texts numbers t r.table sources h ≡ joined (codes p)
+      coded : joint_codes texts numbers t sources ≡ joined (codes p)
       unfolding joined_pair
       coded =
           codes-are texts numbers lents ready.checks.checked joining.joint-of few wires (wires-near joining few)
@@ -224,7 +225,7 @@ module _ {texts numbers links : List ℕ} {r : Verdict} (ready : JoinReady texts
       unfolding image_by
       image-is =
           ap (λ (z : List ℕ).
-          (h ∷ t.signals ∷ two_bytes (starts + length (joint_codes texts numbers t r.table sources h))) ++
+          (h ∷ t.signals ∷ two_bytes (starts + length (joint_codes texts numbers t sources))) ++
           (joint_records texts numbers t r.table sources h ++ z))
           (append_assoc (pairs (offsets (lists_at t.signals h) lists)) (joined lists) _) ∙
           ap₂ (form (rows_by texts numbers r.table)) coded recorded ∙

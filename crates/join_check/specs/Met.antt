@@ -9,6 +9,7 @@ use Rattle.model.specs.Says.Feasible.{Ordered}
 use Rattle.model.specs.declared.Index.TheVariants.{Fixed}
 use Rattle.model.specs.declared.Kind.TheVariants.{Now}
 use Rattle.read_rule.specs.Reads.{met_by}
+use Rattle.join_gather.specs.declared.Joint.{Joint}
 use Rattle.join_links.specs.ByPart.{AllRight}
 use Rattle.text_program.specs.Tables.{PeriodsOf, rate_at}
 
@@ -55,3 +56,6 @@ pub record Linking (parts : List Part) (links bases periods phases ranks : List 
   pub ranks-are : (x : ℕ) → x < count (joined_parts parts).program →
       get_or ranks x 0 ≡ rank (joined_parts parts).schedule.order x
   pub ordered : Ordered (joined_parts parts).program (joined_parts parts).schedule
+
+abbrev pub JointLinking : List Part → List ℕ → Joint → Type 0
+JointLinking parts links t = Linking parts links t.bases t.periods t.phases t.ranks

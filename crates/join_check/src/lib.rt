@@ -6,10 +6,10 @@ ghost use Rattle.model.specs.Rules.Join.{links_of, links_met};
 ghost use Rattle.model.specs.Rules.Parts.{Part};
 ghost use Rattle.basics.specs.Judgement.{judgement_of};
 ghost use Rattle.model.specs.Rules.Word.{byte_at};
-ghost use Rattle.join_check.specs.Met.{number_at, LinkInside, EqualPeriods, link_met_by, Linking};
+ghost use Rattle.join_check.specs.Met.{number_at, LinkInside, EqualPeriods, link_met_by, JointLinking};
 
-use basics::Judged;
-use model::{Index, Kind, Sampled, refusals};
+use join_gather::Joint;
+use model::{Fault, Index, Kind, Refusal, Sampled};
 use read_rule::Timing;
 
 // Where the signal of a part, named by two bytes of a link, is in the join.
@@ -23,58 +23,47 @@ pub fn number_of(links: &[u8], at: usize, bases: &[usize; 9]) -> usize
 }
 
 // Whether the read of the link at `at` is met, by the tables of joined numbers.
-fn link_met(
-    links: &[u8],
-    at: usize,
-    bases: &[usize; 9],
-    periods: &[u8; 64],
-    phases: &[u8; 64],
-    ranks: &[u8; 64],
-) -> bool
-    requires { LinkInside links.now at bases.now }
-    ensures { EqualPeriods links.now at bases.now periods.now phases.now →
-        result ≡ link_met_by links.now at bases.now periods.now phases.now
-        ranks.now }
+fn link_met(links: &[u8], at: usize, joint: &Joint) -> bool
+    requires { LinkInside links.now at joint.now.bases }
+    ensures { EqualPeriods links.now at joint.now.bases joint.now.periods joint.now.phases →
+        result ≡ link_met_by links.now at joint.now.bases joint.now.periods joint.now.phases
+        joint.now.ranks }
 {
-    let r = number_of(links, at, bases);
+    let r = number_of(links, at, &joint.bases);
     let third = at + 2;
-    let w = number_of(links, third, bases);
+    let w = number_of(links, third, &joint.bases);
     let source = Timing {
-        period: periods[w],
-        phase: phases[w],
+        period: joint.periods[w],
+        phase: joint.phases[w],
     };
     let reader = Timing {
-        period: periods[r],
-        phase: phases[r],
+        period: joint.periods[r],
+        phase: joint.phases[r],
     };
     let read = Sampled {
         signal: 0,
         factor: 1,
         index: Index::Fixed(0),
     };
-    read_rule::is_met(Kind::Now, read, source, reader, ranks[w] < ranks[r])
+    read_rule::is_met(
+        Kind::Now,
+        read,
+        source,
+        reader,
+        joint.ranks[w] < joint.ranks[r],
+    )
 }
 
 // 14 at the lowest unmet link.
-pub fn links_met(
-    links: &[u8],
-    bases: &[usize; 9],
-    periods: &[u8; 64],
-    phases: &[u8; 64],
-    ranks: &[u8; 64],
-) -> Judged
-    requires { (parts : List Part) × Linking parts links.now bases.now periods.now phases.now ranks.now }
-    ensures { (parts : List Part) →
-        Linking parts links.now bases.now periods.now phases.now
-        ranks.now →
+pub fn links_met(links: &[u8], joint: &Joint) -> Result<(), Fault>
+    requires { (parts : List Part) × JointLinking parts links.now joint.now }
+    ensures { (parts : List Part) → JointLinking parts links.now joint.now →
         result ≡ judgement_of (links_met parts (links_of links.now)) }
 {
-    let mut at: usize = 0;
-    while at < links.len() {
-        if !link_met(links, at, bases, periods, phases, ranks) {
-            return basics::refuse(refusals::READ_UNMET, at / 4);
+    for i in 0..links.len() / 4 {
+        if !link_met(links, 4 * i, joint) {
+            return basics::refuse(Refusal::ReadUnmet, i);
         }
-        at = at + 4;
     }
-    Judged::Fine
+    Ok(())
 }

@@ -22,6 +22,7 @@ pub fn shift_loads(out: &mut [u8], from: usize, to: usize, base: usize)
     ensures { (r : Coded out.old from to) → out.new ≡ shifted base r }
 {
     let mut at = from;
+    // how far a command reaches is known when it is read
     while at < to {
         let byte = out[at];
         shift_load(out, at, base);

@@ -1,4 +1,5 @@
 -- The parts declare what the joined tables say; their code and records are those of the joined program. Assumes nothing.
+use Rattle.std.specs.Prelude.{Option, Some}
 use Prim.Native.Nat.{ℕ, suc, ◌+◌, ◌-◌, ◌≤◌, ◌<◌}
 use mathlib.Core.Bool.{Bool, true, false, cond, false≢true}
 use mathlib.Core.List.{List, [], ◌∷◌, ◌++◌, append_assoc}
@@ -57,7 +58,6 @@ use Rattle.join_emit.specs.Parts.{
 }
 use Rattle.join_emit.specs.Sources.{source_of, SourcesBy}
 use Rattle.join_emit.proofs.Owned.{declared-at, spelled_at, reads_fit}
-use Rattle.join_emit.proofs.Shifted.{code-linked}
 use Rattle.join_emit.proofs.Stretched.{all-stretches}
 
 -- The code of a signal that may be linked.
@@ -67,14 +67,11 @@ unfolding source_of wired_body expr_code
 wired-code [] start x b h = refl
 wired-code (l ∷ ls) start x b h = go (eqb l.input x) (wired-code ls start x b h.1)
   where
-    linked : joined_code start l.signal x b ≡ signal_code x (equation 0 (read (wire_read l)))
-    linked = code-linked start l.signal x b (λ q. omega (arith, h.0))
-
     go : (t : Bool) →
         joined_code start (source_of ls x) x b ≡ signal_code x (wired_body ls x (renumber_body (λ y. start + y) b)) →
-        joined_code start (cond t l.signal (source_of ls x)) x b ≡
+        joined_code start (cond t (Some l.signal) (source_of ls x)) x b ≡
         signal_code x (cond t (equation 0 (read (wire_read l))) (wired_body ls x (renumber_body (λ y. start + y) b)))
-    go true ih = linked
+    go true ih = refl
     go false ih = ih
 
 -- Code by number.
@@ -229,7 +226,8 @@ module _ (texts numbers : List ℕ) {parts : List Part} {size : ℕ} {t : Joint}
       }
 
   -- With links the code is that of the joined program.
-  module _ (ls : List Wire) (near : All (λ (l : Wire). l.signal < 64) ls) (sources : List ℕ) (by : SourcesBy ls sources) where
+  module _ (ls : List Wire) (near : All (λ (l : Wire). l.signal < 64) ls) (sources : List (Option ℕ))
+      (by : SourcesBy ls sources) where
     abbrev p : Program
     p = wired_with ls whole
 
@@ -239,7 +237,7 @@ module _ (texts numbers : List ℕ) {parts : List Part} {size : ℕ} {t : Joint}
     code-as k x lt lo hi =
         let σ = declared_as (text k) (base parts k) x in
         let l = x_below k x lt lo hi in
-        ap (λ (n : ℕ). joined_code (base parts k) n x σ.body) (by x (omega (arith, l, j.signals, small))) ∙
+        ap (λ (n : Option ℕ). joined_code (base parts k) n x σ.body) (by x (omega (arith, l, j.signals, small))) ∙
         wired-code ls (base parts k) x σ.body near ∙
         ap (λ (τ : Signal). signal_code x (wired_body ls x τ.body)) (sym (as_at k x lt lo hi)) ∙
         ap (λ (τ : Signal). signal_code x τ.body) (sym (wired-signal ls whole x l))

@@ -1,5 +1,6 @@
 -- The code and the records of a part, signal by signal. Assumes nothing.
-use Prim.Native.Nat.{ℕ, ◌+◌, ◌-◌, ◌≤◌, ◌<◌}
+use Rattle.std.specs.Prelude.{Option, None}
+use Prim.Native.Nat.{ℕ, ◌+◌, ◌≤◌, ◌<◌}
 use mathlib.Core.List.{List, ◌++◌}
 use mathlib.Core.Path.{◌≡◌, refl, sym, ap, ◌∙◌}
 use native.Mathlib.Omega.{arith}
@@ -12,7 +13,7 @@ use Rattle.image_write.proofs.Joined.{joined_from}
 use Rattle.join_emit.specs.Code.{JoinedRoom, EmitsJoined}
 use Rattle.join_emit.specs.Parts.{declared_as, code_as, part_codes, record_as, part_records, PartDeclared}
 
-pub codes-left : (text : List ℕ) (base last : ℕ) (sources : List ℕ) →
+pub codes-left : (text : List ℕ) (base last : ℕ) (sources : List (Option ℕ)) →
     joined_from (code_as text base sources) last base ≡ part_codes text base last sources
 unfolding joined_from part_codes
 codes-left text base last sources = refl
@@ -27,8 +28,9 @@ module _ {text places : List ℕ} {base last x : ℕ} (d : PartDeclared text pla
   abbrev σ : Signal
   σ = declared_as text base x
 
-  pub here : (sources : List ℕ) {place n to : ℕ} → place ≡ get_or places x 0 → to + length (code_as text base sources x) ≤ n →
-      JoinedRoom text place base x (get_or sources x 0) n to (declared_as text base x)
+  pub here : (sources : List (Option ℕ)) {place n to : ℕ} → place ≡ get_or places x 0 →
+      to + length (code_as text base sources x) ≤ n →
+      JoinedRoom text place base x (get_or sources x None) n to (declared_as text base x)
   unfolding code_as
   here sources e fits =
       record {
@@ -40,9 +42,9 @@ module _ {text places : List ℕ} {base last x : ℕ} (d : PartDeclared text pla
         fits = fits;
       }
 
-  pub code_wrote : (sources : List ℕ) {place to end : ℕ} {l l' : List ℕ} → place ≡ get_or places x 0 →
+  pub code_wrote : (sources : List (Option ℕ)) {place to end : ℕ} {l l' : List ℕ} → place ≡ get_or places x 0 →
       to + length (code_as text base sources x) ≤ length l →
-      EmitsJoined text place base x (get_or sources x 0) l to l' end → Wrote l to (code_as text base sources x) l' end
+      EmitsJoined text place base x (get_or sources x None) l to l' end → Wrote l to (code_as text base sources x) l' end
   unfolding code_as
   code_wrote sources e fits w = w.puts (declared_as text base x) (here sources e fits)
 

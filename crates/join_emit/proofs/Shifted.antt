@@ -1,9 +1,9 @@
 -- The code of a signal and the base of its part. Assumes nothing.
+use Rattle.std.specs.Prelude.{Option, Some, None}
 use Prim.Native.Nat.{ℕ, ◌+◌, ◌≤◌}
 use mathlib.Core.List.{List, [], ◌∷◌, ◌++◌, map, append_assoc}
 use mathlib.Core.Path.{◌≡◌, refl, sym, ap, ap₂, ◌∙◌}
 use native.Mathlib.Omega.{arith}
-use borrow.Author.Tests.{ne_eqb}
 use lib.ListN.{length, take, drop, length-take}
 use lib.Seq.{sets, sets-eq}
 use Rattle.model.specs.Rules.Image.{signal_code, joined}
@@ -73,15 +73,16 @@ module _ (l : List ℕ) {l₁ : List ℕ} (base x to : ℕ) (b : Body) (fits : t
       }
 
 -- The code by whether the signal is linked.
-pub code-own : (base source x : ℕ) (b : Body) → source ≡ 255 →
+pub code-own : (base : ℕ) (source : Option ℕ) (x : ℕ) (b : Body) → source ≡ None →
     joined_code base source x b ≡ signal_code x (renumber_body (λ y. base + y) b)
 code-own base source x b e = rw e refl
 
-pub code-linked : (base source x : ℕ) (b : Body) → ¬ (source ≡ 255) → joined_code base source x b ≡ 0x51 ∷ source ∷ 0x5F ∷ x ∷ []
-code-linked base source x b u = rw (ne_eqb source 255 u) refl
+pub code-linked : (base : ℕ) (source : Option ℕ) (w x : ℕ) (b : Body) → source ≡ Some w →
+    joined_code base source x b ≡ 0x51 ∷ w ∷ 0x5F ∷ x ∷ []
+code-linked base source w x b e = rw e refl
 
 -- A signal that is not linked.
-module _ {text : List ℕ} {place base x source to : ℕ} (e : source ≡ 255) where
+module _ {text : List ℕ} {place base x to : ℕ} {source : Option ℕ} (e : source ≡ None) where
   own-fits : {n : ℕ} {σ : Signal} → JoinedRoom text place base x source n to σ → to + length (signal_code x σ.body) ≤ n
   own-fits {n} {σ} r =
       omega (
@@ -112,12 +113,12 @@ module _ {text : List ℕ} {place base x source to : ℕ} (e : source ≡ 255) w
       }
 
 -- A linked IN.
-module _ {text : List ℕ} {place base x source to : ℕ} (u : ¬ (source ≡ 255)) where
+module _ {text : List ℕ} {place base x w to : ℕ} {source : Option ℕ} (e : source ≡ Some w) where
   pub linked-room : {n : ℕ} → JoinedHere text place base x source n to → to + 4 ≤ n
-  linked-room (σ, r) = omega (arith, ap length (code-linked base source x σ.body u), r.fits)
+  linked-room (σ, r) = omega (arith, ap length (code-linked base source w x σ.body e), r.fits)
 
-  pub emits-linked : {l l₁ l₂ : List ℕ} {k m n₁ n₂ e₁ e₂ : ℕ} → Puts l to (0x51 ∷ source ∷ []) k l₁ n₁ e₁ →
+  pub emits-linked : {l l₁ l₂ : List ℕ} {k m n₁ n₂ e₁ e₂ : ℕ} → Puts l to (0x51 ∷ w ∷ []) k l₁ n₁ e₁ →
       Puts l₁ e₁ (0x5F ∷ x ∷ []) m l₂ n₂ e₂ → EmitsJoined text place base x source l to l₂ e₂
   emits-linked p q =
       let j = join p q in
-      record { puts = λ σ r. rw (code-linked base source x σ.body u) (record { holds = j.holds; ends = j.ends }) }
+      record { puts = λ σ r. rw (code-linked base source w x σ.body e) (record { holds = j.holds; ends = j.ends }) }

@@ -1,5 +1,5 @@
 -- The code and the records of joined signals, part by part.
-use Rattle.std.specs.Prelude.{ℕ, ◌+◌, ◌-◌, ◌≤◌, ◌<◌, List, ◌++◌, ◌≡◌, get_or}
+use Rattle.std.specs.Prelude.{Option, None, ℕ, ◌+◌, ◌-◌, ◌≤◌, ◌<◌, List, ◌++◌, ◌≡◌, get_or}
 use Rattle.model.specs.Rules.Image.{joined}
 use Rattle.model.specs.Rules.Join.{parts_in, texts_at, lent, program_text}
 use Rattle.model.specs.Rules.Outcome.{accepted}
@@ -15,10 +15,10 @@ abbrev pub declared_as : List ℕ → ℕ → ℕ → Signal
 declared_as text base x = get_or (declared_by text) (x - base) no_signal
 
 -- The code of the joined signals from `base` up to `last`, which a text declares.
-unfoldable pub code_as : List ℕ → ℕ → List ℕ → ℕ → List ℕ
-code_as text base sources x = joined_code base (get_or sources x 0) x (declared_as text base x).body
+unfoldable pub code_as : List ℕ → ℕ → List (Option ℕ) → ℕ → List ℕ
+code_as text base sources x = joined_code base (get_or sources x None) x (declared_as text base x).body
 
-unfoldable pub part_codes : List ℕ → ℕ → ℕ → List ℕ → List ℕ
+unfoldable pub part_codes : List ℕ → ℕ → ℕ → List (Option ℕ) → List ℕ
 part_codes text base last sources = joined (table_from base (last - base) (code_as text base sources))
 
 -- Their records: initial word, code offset.
@@ -43,7 +43,7 @@ module _ (texts numbers bases : List ℕ) where
   abbrev pub base_of : ℕ → ℕ
   base_of k = get_or bases k 0
 
-  unfoldable pub codes_of : List ℕ → ℕ → List ℕ
+  unfoldable pub codes_of : List (Option ℕ) → ℕ → List ℕ
   codes_of sources k = part_codes (text_of k) (base_of k) (base_of (k + 1)) sources
 
   unfoldable pub records_of : List ℕ → ℕ → ℕ → List ℕ

@@ -1,13 +1,13 @@
 -- By joined number the signal that a linked IN reads.
-use Rattle.std.specs.Prelude.{ℕ, ◌*◌, ◌/◌, ◌<◌, cond, List, [], ◌∷◌, ◌≡◌, eqb, length, get_or}
+use Rattle.std.specs.Prelude.{Option, Some, None, ℕ, ◌*◌, ◌/◌, ◌<◌, cond, List, [], ◌∷◌, ◌≡◌, eqb, length, get_or}
 use Rattle.model.specs.Rules.Parts.{Wire}
 use Rattle.model.specs.Rules.Search.{table}
 use Rattle.join_check.specs.Met.{reader_at, source_at, LinkInside}
 
--- The signal that x reads by the first link that has it as its IN, 255 where there is none.
-unfoldable pub source_of : List Wire → ℕ → ℕ
-source_of [] x = 255
-source_of (l ∷ ls) x = cond (eqb l.input x) l.signal (source_of ls x)
+-- The signal that x reads by the first link that has it as its IN, where there is one.
+unfoldable pub source_of : List Wire → ℕ → Option ℕ
+source_of [] x = None
+source_of (l ∷ ls) x = cond (eqb l.input x) (Some l.signal) (source_of ls x)
 
 -- The links by joined numbers, the parts' signals starting at `bases`.
 module _ (links bases : List ℕ) where
@@ -22,5 +22,5 @@ module _ (links bases : List ℕ) where
   WiresInside = (i : ℕ) → i < length links / 4 → LinkInside links (4 * i) bases
 
 -- The table of the sources.
-abbrev pub SourcesBy : List Wire → List ℕ → Type 0
-SourcesBy wires sources = (x : ℕ) → x < 64 → get_or sources x 0 ≡ source_of wires x
+abbrev pub SourcesBy : List Wire → List (Option ℕ) → Type 0
+SourcesBy wires sources = (x : ℕ) → x < 64 → get_or sources x None ≡ source_of wires x

@@ -4,14 +4,11 @@
 ghost use Rattle.std.specs.Prelude.{◌≡◌, ℕ, ◌+◌, ◌≤◌, ◌<◌, length};
 ghost use Rattle.std.proofs.lemmas.List.Edits.{sets};
 ghost use Rattle.model.specs.Rules.Image.{joined};
-ghost use Rattle.model.specs.Rules.Join.{parts_in, texts_at, lent, program_text};
-ghost use Rattle.model.specs.Rules.Outcome.{accepted};
-ghost use Rattle.model.specs.Rules.Search.{table};
 ghost use Rattle.model.specs.Rules.Writing.{Wrote};
 ghost use Rattle.join_emit.specs.Code.{JoinedHere, EmitsJoined};
-ghost use Rattle.join_emit.specs.Image.{joint_lists, joint_runs, joint_image, JointTimed, JointFits};
+ghost use Rattle.join_emit.specs.Image.{joint_lists, joint_runs, joint_records_at, joint_codes, joint_image, JointTimed, JointFits};
 ghost use Rattle.join_emit.specs.Sources.{wires_by, WiresInside, SourcesBy};
-ghost use Rattle.join_emit.specs.Parts.{part_codes, codes_of, part_records, records_of, PartDeclared, PartsDeclared};
+ghost use Rattle.join_emit.specs.Parts.{part_codes, part_records, PartDeclared, PartsDeclared};
 
 use image_write::Layout;
 use join_gather::{Joint, Table};
@@ -22,7 +19,7 @@ fn emit_joined(
     place: usize,
     base: usize,
     x: usize,
-    source: u8,
+    source: Option<u8>,
     out: &mut [u8],
     to: usize,
 ) -> usize
@@ -30,11 +27,11 @@ fn emit_joined(
     ensures { EmitsJoined text.now place base x source out.old to out.new result }
 {
     let signal = basics::to_byte(x);
-    if source == 255 {
+    let Some(source) = source else {
         let end = image_code::emit_signal(text, place, signal, out, to);
         join_code::shift_loads(out, to, end, base);
         return end;
-    }
+    };
     let load = image_code::put_access(out, to, 0x51, source, place);
     let store = image_code::put_access(out, load.end, 0x5F, signal, place);
     store.end
@@ -46,7 +43,7 @@ fn emit_part_codes(
     places: &[u16; 64],
     base: usize,
     last: usize,
-    sources: &[u8; 64],
+    sources: &[Option<u8>; 64],
     out: &mut [u8],
     to: usize,
 ) -> usize
@@ -56,16 +53,15 @@ fn emit_part_codes(
         out.new result }
 {
     let mut end = to;
-    let mut x = base;
-    while x < last {
+    for x in base..last {
         let place = basics::from_entry(places[x]);
         end = emit_joined(text, place, base, x, sources[x], out, end);
-        x = x + 1;
     }
     end
 }
 
-// Writes the records of a part's signals.
+// Writes the records of a part's signals. One function for both loops would take the step as a closure, which is no plainer:
+// it would capture the tables, and `out` would be passed through it.
 fn emit_part_records(
     text: &[u8],
     places: &[u16; 64],
@@ -82,107 +78,34 @@ fn emit_part_records(
         out.new result }
 {
     let mut end = to;
-    let mut x = base;
-    while x < last {
+    for x in base..last {
         let code = basics::from_entry(codes[x]);
         let place = basics::from_entry(places[x]);
         end = image_write::put_record(text, place, start + code, out, end);
-        x = x + 1;
     }
     end
 }
 
-// Writes the code of part k.
-fn emit_codes_of(
-    texts: &[u8],
-    numbers: &[usize],
-    k: usize,
-    places: &[u16; 64],
-    base: usize,
-    last: usize,
-    sources: &[u8; 64],
-    out: &mut [u8],
-    to: usize,
-) -> usize
-    requires { (k < parts_in numbers.now) × (lent texts.now numbers.now ≡ accepted tt)
-        × PartDeclared (program_text texts.now (texts_at numbers.now k)) places.now base last
-        × (to + length (part_codes (program_text texts.now (texts_at numbers.now k)) base last sources.now) ≤
-        length out.old) }
-    ensures { Wrote out.old to
-        (part_codes (program_text texts.now (texts_at numbers.now k)) base last sources.now)
-        out.new result }
-{
-    let first = 4 * k;
-    let second = first + 1;
-    let start = numbers[first];
-    let end = start + numbers[second];
-    emit_part_codes(&texts[start..end], places, base, last, sources, out, to)
-}
-
-// Writes the records of part k.
-fn emit_records_of(
-    texts: &[u8],
-    numbers: &[usize],
-    k: usize,
-    places: &[u16; 64],
-    base: usize,
-    last: usize,
-    codes: &[u16; 65],
-    code: usize,
-    out: &mut [u8],
-    to: usize,
-) -> usize
-    requires { (k < parts_in numbers.now) × (lent texts.now numbers.now ≡ accepted tt)
-        × PartDeclared (program_text texts.now (texts_at numbers.now k)) places.now base last × (code ≤ length out.old)
-        × (to + length (part_records (program_text texts.now (texts_at numbers.now k)) base last codes.now code) ≤
-        length out.old) }
-    ensures { Wrote out.old to
-        (part_records (program_text texts.now (texts_at numbers.now k)) base last codes.now code)
-        out.new result }
-{
-    let first = 4 * k;
-    let second = first + 1;
-    let start = numbers[first];
-    let end = start + numbers[second];
-    emit_part_records(&texts[start..end], places, base, last, codes, code, out, to)
-}
-
-// Writes the code of all parts, whose signals start at `bases`.
+// Writes the code of all parts, as the tables say.
 pub fn emit_codes(
     texts: &[u8],
     numbers: &[usize],
-    parts: usize,
-    bases: &[usize; 9],
-    places: &[u16; 64],
-    sources: &[u8; 64],
+    joint: &Joint,
+    sources: &[Option<u8>; 64],
     out: &mut [u8],
     to: usize,
 ) -> usize
-    requires { PartsDeclared texts.now numbers.now bases.now places.now parts
-        × (to + length (joined (table parts (codes_of texts.now numbers.now bases.now sources.now))) ≤
-        length out.old) }
-    ensures { Wrote out.old to
-        (joined (table parts
-        (codes_of texts.now numbers.now bases.now sources.now)))
+    requires { PartsDeclared texts.now numbers.now joint.now.bases joint.now.places joint.now.parts
+        × (to + length (joint_codes texts.now numbers.now joint.now sources.now) ≤ length out.old) }
+    ensures { Wrote out.old to (joint_codes texts.now numbers.now joint.now sources.now)
         out.new result }
 {
     let mut end = to;
-    let mut k: usize = 0;
-    while k < parts {
-        let base = bases[k];
-        let next = k + 1;
-        end = emit_codes_of(
-            texts,
-            numbers,
-            k,
-            places,
-            base,
-            bases[next],
-            sources,
-            out,
-            end,
-        );
-        k = next;
+    for k in 0..joint.parts {
+        let program = join_texts::program_of(texts, numbers, k);
+        let base = joint.bases[k];
+        let last = joint.bases[k + 1];
+        end = emit_part_codes(program, &joint.places, base, last, sources, out, end);
     }
     end
 }
@@ -191,103 +114,100 @@ pub fn emit_codes(
 pub fn emit_records(
     texts: &[u8],
     numbers: &[usize],
-    parts: usize,
-    bases: &[usize; 9],
-    places: &[u16; 64],
-    codes: &[u16; 65],
+    joint: &Joint,
     code: usize,
     out: &mut [u8],
     to: usize,
 ) -> usize
-    requires { PartsDeclared texts.now numbers.now bases.now places.now parts × (code ≤ length out.old)
-        × (to + length (joined (table parts (records_of texts.now numbers.now bases.now codes.now code))) ≤
-        length out.old) }
-    ensures { Wrote out.old to
-        (joined (table parts
-        (records_of texts.now numbers.now bases.now codes.now code)))
+    requires { PartsDeclared texts.now numbers.now joint.now.bases joint.now.places joint.now.parts
+        × (code ≤ length out.old)
+        × (to + length (joint_records_at texts.now numbers.now joint.now code) ≤ length out.old) }
+    ensures { Wrote out.old to (joint_records_at texts.now numbers.now joint.now code)
         out.new result }
 {
     let mut end = to;
-    let mut k: usize = 0;
-    while k < parts {
-        let base = bases[k];
-        let next = k + 1;
-        end = emit_records_of(
-            texts,
-            numbers,
-            k,
-            places,
+    for k in 0..joint.parts {
+        let program = join_texts::program_of(texts, numbers, k);
+        let base = joint.bases[k];
+        let last = joint.bases[k + 1];
+        end = emit_part_records(
+            program,
+            &joint.places,
             base,
-            bases[next],
-            codes,
+            last,
+            &joint.codes,
             code,
             out,
             end,
         );
-        k = next;
     }
     end
 }
 
-// By joined number the signal that a linked IN reads, 255 where a signal is no linked IN. The first link counts.
-pub fn sources_of(links: &[u8], bases: &[usize; 9]) -> [u8; 64]
+// By joined number the signal that a linked IN reads. The first link counts.
+pub fn sources_of(links: &[u8], bases: &[usize; 9]) -> [Option<u8>; 64]
     requires { WiresInside links.now bases.now }
     ensures { SourcesBy (wires_by links.now bases.now) result }
 {
-    let mut sources: [u8; 64] = [255; 64];
-    let mut i = links.len() / 4;
-    while 0 < i {
-        i = i - 1;
+    let mut sources: [Option<u8>; 64] = [None; 64];
+    for i in (0..links.len() / 4).rev() {
         let at = 4 * i;
         let r = join_check::number_of(links, at, bases);
         let w = join_check::number_of(links, at + 2, bases);
-        sources[r] = basics::to_byte(w);
+        sources[r] = Some(basics::to_byte(w));
     }
     sources
 }
 
 // Writes the offsets of the run lists of h cycles, the first list at `start`, and then the lists.
-fn emit_run_lists(joint: Joint, h: usize, start: usize, out: &mut [u8], to: usize) -> usize
-    requires { JointTimed joint h × (start + length (joined (joint_lists joint h)) ≤ length out.old)
-        × (to + length (joint_runs joint h start) ≤ length out.old) }
-    ensures { Wrote out.old to (joint_runs joint h start) out.new result }
+fn emit_run_lists(joint: &Joint, h: usize, start: usize, out: &mut [u8], to: usize) -> usize
+    requires { JointTimed joint.now h × (start + length (joined (joint_lists joint.now h)) ≤ length out.old)
+        × (to + length (joint_runs joint.now h start) ≤ length out.old) }
+    ensures { Wrote out.old to (joint_runs joint.now h start) out.new result }
 {
     let n = joint.signals;
-    let periods = joint.periods;
-    let order = joint.order;
-    let phases = joint.phases;
     let mut nexts: [u16; 241] = [0; 241];
     let lists = image_write::emit_offsets(
-        &periods, &order, &phases, n, h, start, &mut nexts, out, to,
+        &joint.periods,
+        &joint.order,
+        &joint.phases,
+        n,
+        h,
+        start,
+        &mut nexts,
+        out,
+        to,
     );
-    image_write::emit_lists(&periods, &order, &phases, n, h, &mut nexts, out, lists)
+    image_write::emit_lists(
+        &joint.periods,
+        &joint.order,
+        &joint.phases,
+        n,
+        h,
+        &mut nexts,
+        out,
+        lists,
+    )
 }
 
 // Writes the image of the joined parts, laid out as `layout` says, into the first L bytes.
 pub fn emit_image(
     texts: &[u8],
     numbers: &[usize],
-    joint: Joint,
-    table: Table,
-    sources: &[u8; 64],
+    joint: &Joint,
+    table: &Table,
+    sources: &[Option<u8>; 64],
     h: usize,
     layout: Layout,
     out: &mut [u8],
 )
-    requires { JointFits texts.now numbers.now joint table sources.now h layout (length out.old) }
+    requires { JointFits texts.now numbers.now joint.now table.now sources.now h layout (length out.old) }
     ensures { out.new ≡ sets out.old 0
-        (joint_image texts.now numbers.now joint table sources.now h) }
+        (joint_image texts.now numbers.now joint.now table.now sources.now h) }
 {
-    let parts = joint.parts;
-    let bases = joint.bases;
-    let places = joint.places;
-    let starts = joint.codes;
-    let code = layout.code;
     let records = image_write::put_head(h, joint.signals, layout.end, out);
-    let offsets = emit_records(
-        texts, numbers, parts, &bases, &places, &starts, code, out, records,
-    );
+    let offsets = emit_records(texts, numbers, joint, layout.code, out, records);
     let rows = emit_run_lists(joint, h, layout.lists, out, offsets);
     let codes = join_rows::emit_rows(texts, numbers, table, out, rows);
-    emit_codes(texts, numbers, parts, &bases, &places, sources, out, codes);
+    emit_codes(texts, numbers, joint, sources, out, codes);
 }

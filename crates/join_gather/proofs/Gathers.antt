@@ -1,4 +1,5 @@
 -- The parts checked one after another. Assumes nothing.
+use Rattle.std.specs.Prelude.{Some}
 use Prim.Native.Nat.{ℕ, zero, suc, ◌+◌, ◌-◌, ◌*◌, ◌≤◌, ◌<◌}
 use mathlib.Core.Bool.{false}
 use mathlib.Core.List.{List, [], ◌∷◌, ◌++◌, append_assoc}
@@ -28,7 +29,6 @@ use Rattle.model.specs.Rules.Reads.{rank}
 use Rattle.model.specs.Rules.Schedule.{Schedule, puts_faults, put_phase, is_put, schedule_of, placed}
 use Rattle.model.specs.Rules.Search.{first_below, all_below, sum, table_from, table, join_from}
 use Rattle.model.specs.declared.Fault.{Fault}
-use Rattle.model.specs.declared.Found.TheVariants.{At}
 use Rattle.model.proofs.Joining.Parts.{join-count, join-chains, joined-last}
 use Rattle.model.specs.Says.Feasible.{OrderedPart}
 use Rattle.model.proofs.Basics.Outcomes.{
@@ -55,7 +55,7 @@ use Rattle.text_schedule.specs.declared.Slots.{Slots}
 use Rattle.join_gather.specs.Joint.{Nothing, PartTables, JointTables, CodeWithin, JointOf}
 use Rattle.join_gather.specs.Rates.{RatesOf}
 use Rattle.join_gather.specs.declared.Joint.{Joint}
-use Rattle.join_gather.proofs.Lent.{Kept}
+use Rattle.join_texts.proofs.Lent.{Kept}
 
 -- The code of a program by its table.
 codes-total : (σs : List Signal) (i : ℕ) (t : List ℕ) →
@@ -289,7 +289,7 @@ module _ (texts numbers : List ℕ) (done : List Part) (k : ℕ) (t : Joint) (g 
         ap (λ o. o ▷ λ rest. accepted (done ++ rest)) (refused-then _ _ _ e) ∙
         refused-then (refused f) _ f refl
 
-    pub named-refused : lent texts numbers ≡ accepted tt → part_named texts numbers ≡ At k
+    pub named-refused : lent texts numbers ≡ accepted tt → part_named texts numbers ≡ Some k
     unfolding part_named first_below
     named-refused l =
         ap (λ (o : Outcome (Unit {0})).

@@ -4,6 +4,5 @@ pub mod Rows
 pub mod Tabled
 pub mod Fills
 pub mod Rated
-pub mod Lent
 pub mod Gathers
 pub mod Each

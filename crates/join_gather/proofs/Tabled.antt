@@ -1,6 +1,6 @@
 -- The tables of joined parts with one part more. Assumes nothing.
+use Rattle.std.specs.Prelude.{Option}
 use Prim.Native.Nat.{ℕ, zero, suc, ◌+◌, ◌-◌, ◌%◌, ◌≤◌, ◌<◌}
-use mathlib.Core.Bool.{Bool, ◌||◌}
 use mathlib.Core.List.{List, [], ◌∷◌, ◌++◌}
 use mathlib.Core.Path.{◌≡◌, sym, ap, ap₂, subst, ◌∙◌}
 use native.Mathlib.Decide.{dec_lt}
@@ -203,10 +203,8 @@ space-kept t r tables slots s a =
 -- One part more.
 module _ (parts : List Part) (a : Part) (size more : ℕ) (t w : Joint) (pair : PairTables) (old : JointOf parts size t)
     (part : PartTables a pair.tables pair.slots) (ordered : OrderedPart a) (within : CodeWithin pair.tables more)
-    (fits : size + more < 65536) (with_part : WithSignals t pair.tables pair.slots w) (room : t.parts < 8) (least : ℕ)
-    (capped : Bool) (either : capped ≡ t.capped || pair.tables.capped)
-    (smallest : cap_of (t.capped || pair.tables.capped) least ≡
-    smaller (cap_of t.capped t.limit) (cap_of pair.tables.capped pair.tables.limit)) where
+    (fits : size + more < 65536) (with_part : WithSignals t pair.tables pair.slots w) (room : t.parts < 8) (least : Option ℕ)
+    (smallest : cap_of least ≡ smaller (cap_of t.cap) (cap_of pair.tables.cap)) where
   abbrev q : Part
   q = joined_parts parts
 
@@ -217,8 +215,7 @@ module _ (parts : List Part) (a : Part) (size more : ℕ) (t w : Joint) (pair : 
         bases = set w.bases (t.parts + 1) (t.signals + pair.tables.signals);
         signals = t.signals + pair.tables.signals;
         chains = t.chains + pair.tables.chains;
-        capped = capped;
-        limit = least;
+        cap = least;
         places = w.places;
         periods = w.periods;
         weights = w.weights;
@@ -329,7 +326,7 @@ module _ (parts : List Part) (a : Part) (size more : ℕ) (t w : Joint) (pair : 
             );
         cap =
             ap (λ (p : Part). p.program.cap) last ∙
-            ap₂ smaller old.cap part.tables-are.cap ∙ sym smallest ∙ ap (λ (b : Bool). cap_of b least) (sym either);
+            ap₂ smaller old.cap part.tables-are.cap ∙ sym smallest;
         ordered = subst OrderedPart (sym last) (join-ordered q a old.ordered ordered);
         tables = λ few. subst (λ (p : Part). JointTables p next) (sym last) (joined-tables few);
         short = code-end;

@@ -1,5 +1,5 @@
 -- The tables of joined parts, by joined number.
-use Rattle.std.specs.Prelude.{ℕ, ◌+◌, ◌%◌, ◌≤◌, ◌<◌, false, List, ◌≡◌, length, get_or}
+use Rattle.std.specs.Prelude.{None, ℕ, ◌+◌, ◌%◌, ◌≤◌, ◌<◌, List, ◌≡◌, length, get_or}
 use Rattle.model.specs.Rules.Parts.{Part, joined_parts, base}
 use Rattle.model.specs.Rules.Program.{count, signal_at}
 use Rattle.model.specs.Says.Feasible.{OrderedPart}
@@ -26,7 +26,7 @@ pub record Nothing (t : Joint) : Type 0 where
   pub no-parts : t.parts ≡ 0
   pub no-signals : t.signals ≡ 0
   pub no-chains : t.chains ≡ 0
-  pub no-cap : t.capped ≡ false
+  pub no-cap : t.cap ≡ None
   pub base : get_or t.bases 0 0 ≡ 0
   pub code : get_or t.codes 0 0 ≡ 0
 
@@ -107,7 +107,7 @@ pub record JointOf (parts : List Part) (size : ℕ) (t : Joint) : Type 0 where
   pub bases : (k : ℕ) → k ≤ length parts → get_or t.bases k 0 ≡ base parts k
   pub signals : t.signals ≡ count (joined_parts parts).program
   pub chains : t.chains ≡ length (joined_parts parts).program.chains
-  pub cap : (joined_parts parts).program.cap ≡ cap_of t.capped t.limit
+  pub cap : (joined_parts parts).program.cap ≡ cap_of t.cap
   pub ordered : OrderedPart (joined_parts parts)
   pub tables : t.signals ≤ 64 → JointTables (joined_parts parts) t
   pub short : t.signals ≤ 64 → get_or t.codes t.signals 0 ≤ size

@@ -2,7 +2,7 @@
 // joined number what the image is made of.
 #![tactic(auto)]
 
-ghost use Rattle.std.specs.Prelude.{◌||◌, List, [], ◌∷◌, ◌++◌, ◌≡◌, ℕ, ◌+◌, ◌*◌, ◌≤◌, ◌<◌, length, get_or};
+ghost use Rattle.std.specs.Prelude.{List, [], ◌∷◌, ◌++◌, ◌≡◌, ℕ, ◌+◌, ◌*◌, ◌≤◌, ◌<◌, length, get_or};
 ghost use Rattle.model.specs.Rules.Join.{parts_in, texts_at, lent, program_text, part_pair, parts_from};
 ghost use Rattle.check_pair.specs.Checked.{CheckedAs};
 ghost use Rattle.model.specs.Rules.Outcome.{accepted};
@@ -14,10 +14,9 @@ ghost use Rattle.join_gather.specs.Rows.{NoTable, TableOf};
 ghost use Rattle.model.specs.Says.Feasible.{OrderedPart};
 ghost use Rattle.join_gather.specs.Joint.{JointSpace, Nothing, AddsSignals, WithSignals, PartTables, CodeWithin, JointOf};
 
-use basics::Judged;
-use check_pair::Checked;
+use model::{Fault, JoinFault};
 use text_program::Tables;
-use text_schedule::{PairTables, Slots};
+use text_schedule::PairTables;
 
 // What the image of the joined parts is made of, by joined number; `bases` has where the signals of each part start, and last
 // where they end. The tables have the first 64 signals; `signals` and `chains` count all.
@@ -27,8 +26,7 @@ pub struct Joint {
     pub bases: [usize; 9],
     pub signals: usize,
     pub chains: usize,
-    pub capped: bool,
-    pub limit: u32,
+    pub cap: Option<u32>,
     pub places: [u16; 64],
     pub periods: [u8; 64],
     pub weights: [u16; 64],
@@ -48,8 +46,7 @@ impl Joint {
             bases: [0; 9],
             signals: 0,
             chains: 0,
-            capped: false,
-            limit: 0,
+            cap: None,
             places: [0; 64],
             periods: [0; 64],
             weights: [0; 64],
@@ -60,105 +57,72 @@ impl Joint {
             ranks: [0; 64],
         }
     }
+
+    // Adds the signals of a part, which are numbered on.
+    fn add_signals(&mut self, pair: &PairTables)
+        requires { JointSpace self.old × (self.old.signals + pair.now.tables.signals ≤ 64) }
+        ensures { AddsSignals self.old pair.now.tables pair.now.slots self.new }
+    {
+        let tables = &pair.tables;
+        let slots = &pair.slots;
+        let base = self.signals;
+        let code = basics::from_entry(self.codes[base]);
+        for x in 0..tables.signals {
+            let at = base + x;
+            let upto = code + basics::from_entry(tables.codes[x + 1]);
+            let put = base + basics::from_byte(slots.order[x]);
+            let rank = base + basics::from_byte(slots.ranks[x]);
+            self.places[at] = tables.places[x];
+            self.periods[at] = tables.periods[x];
+            self.weights[at] = tables.weights[x];
+            self.labels[at] = tables.labels[x];
+            self.codes[at + 1] = (upto % 65536) as u16;
+            self.order[at] = (put % 256) as u8;
+            self.phases[at] = slots.phases[x];
+            self.ranks[at] = (rank % 256) as u8;
+        }
+    }
+
+    // The same where there are at most 64 signals then.
+    fn with_signals(&mut self, pair: &PairTables)
+        requires { JointSpace self.old × (self.old.signals ≤ 1000) × (pair.now.tables.signals ≤ 64) }
+        ensures { WithSignals self.old pair.now.tables pair.now.slots self.new }
+    {
+        if self.signals + pair.tables.signals <= 64 {
+            self.add_signals(pair);
+        }
+    }
+
+    // Adds a part.
+    fn add_part(&mut self, pair: &PairTables)
+        requires { JointSpace self.old × (self.old.parts < 8) × (self.old.signals ≤ 1000) × (self.old.chains ≤ 1000)
+            × (pair.now.tables.signals ≤ 64) × (pair.now.tables.chains ≤ 16) }
+        ensures { (parts : List Part) (a : Part) (size more : ℕ) → JointOf parts size self.old →
+            PartTables a pair.now.tables pair.now.slots → OrderedPart a → CodeWithin pair.now.tables more →
+            size + more < 65536 → JointOf (parts ++ (a ∷ [])) (size + more) self.new }
+    {
+        let signals = self.signals + pair.tables.signals;
+        let chains = self.chains + pair.tables.chains;
+        let cap = smaller_limit(self.cap, pair.tables.cap);
+        let parts = self.parts + 1;
+        self.with_signals(pair);
+        self.parts = parts;
+        self.bases[parts] = signals;
+        self.signals = signals;
+        self.chains = chains;
+        self.cap = cap;
+    }
 }
 
 // The smaller of two CAPs, where there are two.
-fn smaller_limit(capped: bool, limit: u32, also: bool, other: u32) -> u32
-    ensures { cap_of (capped || also) result ≡ smaller (cap_of capped limit) (cap_of also other) }
+fn smaller_limit(cap: Option<u32>, other: Option<u32>) -> Option<u32>
+    ensures { cap_of result ≡ smaller (cap_of cap) (cap_of other) }
 {
-    if !also {
-        return limit;
+    match (cap, other) {
+        (Some(limit), Some(also)) => Some(limit.min(also)),
+        (Some(limit), None) => Some(limit),
+        (None, _) => other,
     }
-    if !capped {
-        return other;
-    }
-    if limit < other {
-        return limit;
-    }
-    other
-}
-
-// Adds the signals of a part, which are numbered on.
-fn add_signals(joint: Joint, tables: Tables, slots: Slots) -> Joint
-    requires { JointSpace joint × (joint.signals + tables.signals ≤ 64) }
-    ensures { AddsSignals joint tables slots result }
-{
-    let mut next = joint;
-    let places = tables.places;
-    let periods = tables.periods;
-    let weights = tables.weights;
-    let labels = tables.labels;
-    let codes = tables.codes;
-    let order = slots.order;
-    let phases = slots.phases;
-    let ranks = slots.ranks;
-    let base = joint.signals;
-    let before = joint.codes;
-    let code = basics::from_entry(before[base]);
-    let n = tables.signals;
-    let mut x: usize = 0;
-    while x < n {
-        let at = base + x;
-        let end = x + 1;
-        let upto = code + basics::from_entry(codes[end]);
-        let put = base + basics::from_byte(order[x]);
-        let rank = base + basics::from_byte(ranks[x]);
-        next.places[at] = places[x];
-        next.periods[at] = periods[x];
-        next.weights[at] = weights[x];
-        next.labels[at] = labels[x];
-        next.codes[at + 1] = (upto % 65536) as u16;
-        next.order[at] = (put % 256) as u8;
-        next.phases[at] = phases[x];
-        next.ranks[at] = (rank % 256) as u8;
-        x = end;
-    }
-    next
-}
-
-// The same where there are at most 64 signals then.
-fn with_signals(joint: Joint, tables: Tables, slots: Slots) -> Joint
-    requires { JointSpace joint × (joint.signals ≤ 1000) × (tables.signals ≤ 64) }
-    ensures { WithSignals joint tables slots result }
-{
-    if joint.signals + tables.signals <= 64 {
-        return add_signals(joint, tables, slots);
-    }
-    joint
-}
-
-fn either(a: bool, b: bool) -> bool
-    ensures { result ≡ a || b }
-{
-    if a {
-        return true;
-    }
-    b
-}
-
-// Adds a part.
-fn add_part(joint: Joint, pair: PairTables) -> Joint
-    requires { JointSpace joint × (joint.parts < 8) × (joint.signals ≤ 1000) × (joint.chains ≤ 1000)
-        × (pair.tables.signals ≤ 64) × (pair.tables.chains ≤ 16) }
-    ensures { (parts : List Part) (a : Part) (size more : ℕ) → JointOf parts size joint →
-        PartTables a pair.tables pair.slots → OrderedPart a → CodeWithin pair.tables more → size + more < 65536 →
-        JointOf (parts ++ (a ∷ [])) (size + more) result }
-{
-    let tables = pair.tables;
-    let slots = pair.slots;
-    let signals = joint.signals + tables.signals;
-    let chains = joint.chains + tables.chains;
-    let limit = smaller_limit(joint.capped, joint.limit, tables.capped, tables.limit);
-    let capped = either(joint.capped, tables.capped);
-    let parts = joint.parts + 1;
-    let mut next = with_signals(joint, tables, slots);
-    next.parts = parts;
-    next.bases[parts] = signals;
-    next.signals = signals;
-    next.chains = chains;
-    next.limit = limit;
-    next.capped = capped;
-    next
 }
 
 // The rows of the parts: how many parts have some, and of the last of these its number and the count and offsets of its rows.
@@ -181,70 +145,56 @@ impl Table {
             offsets: [0; 32],
         }
     }
-}
 
-// Adds the rows of a part.
-fn add_table(table: Table, tables: Tables, part: usize) -> Table
-    requires { table.parts ≤ 1000 }
-    ensures { (parts : List Part) (a : Part) → length parts ≡ part → TablesOf a.program tables → TableOf parts table →
-        TableOf (parts ++ (a ∷ [])) result }
-{
-    if tables.rows == 0 {
-        return table;
-    }
-    let offsets = tables.offsets;
-    Table {
-        parts: table.parts + 1,
-        part: part,
-        rows: tables.rows,
-        offsets: offsets,
+    // Adds the rows of a part.
+    fn add_rows(&mut self, tables: &Tables, part: usize)
+        requires { self.old.parts ≤ 1000 }
+        ensures { (parts : List Part) (a : Part) → length parts ≡ part → TablesOf a.program tables.now →
+            TableOf parts self.old → TableOf (parts ++ (a ∷ [])) self.new }
+    {
+        if tables.rows == 0 {
+            return;
+        }
+        *self = Table {
+            parts: self.parts + 1,
+            part,
+            rows: tables.rows,
+            offsets: tables.offsets,
+        };
     }
 }
 
 // Keeps for the links the period of each signal of a part, by part and number, and whether it is an IN.
 fn add_rates(
     program: &[u8],
-    tables: Tables,
+    tables: &Tables,
     part: usize,
     periods: &mut [u8; 512],
     inputs: &mut [bool; 512],
 )
-    requires { (part < 8) × (tables.signals ≤ 64)
-        × ((x : ℕ) → x < tables.signals → get_or tables.places x 0 < length program.now) }
-    ensures { (parts : List Part) (a : Part) → RatesOf program.now tables a → length parts ≡ part →
+    requires { (part < 8) × (tables.now.signals ≤ 64)
+        × ((x : ℕ) → x < tables.now.signals → get_or tables.now.places x 0 < length program.now) }
+    ensures { (parts : List Part) (a : Part) → RatesOf program.now tables.now a → length parts ≡ part →
         RatesBy parts periods.old inputs.old →
         RatesBy (parts ++ (a ∷ [])) periods.new inputs.new }
 {
-    let places = tables.places;
-    let own = tables.periods;
-    let n = tables.signals;
-    let mut x: usize = 0;
-    while x < n {
-        let place = basics::from_entry(places[x]);
+    for x in 0..tables.signals {
+        let place = basics::from_entry(tables.places[x]);
         let at = 64 * part + x;
-        periods[at] = own[x];
+        periods[at] = tables.periods[x];
         inputs[at] = program[place] == 0x10;
-        x = x + 1;
     }
 }
 
 // Part k, checked alone.
-fn check_part(texts: &[u8], numbers: &[usize], k: usize) -> Checked
+fn check_part(texts: &[u8], numbers: &[usize], k: usize) -> Result<PairTables, Fault>
     requires { (k < parts_in numbers.now) × (lent texts.now numbers.now ≡ accepted tt) }
     ensures { CheckedAs (program_text texts.now (texts_at numbers.now k))
         (part_pair texts.now (texts_at numbers.now k)) result }
 {
-    let first = 4 * k;
-    let second = first + 1;
-    let third = first + 2;
-    let fourth = first + 3;
-    let program_start = numbers[first];
-    let program_end = program_start + numbers[second];
-    let schedule_start = numbers[third];
-    let schedule_end = schedule_start + numbers[fourth];
     check_pair::check_pair(
-        &texts[program_start..program_end],
-        &texts[schedule_start..schedule_end],
+        join_texts::program_of(texts, numbers, k),
+        join_texts::schedule_of(texts, numbers, k),
     )
 }
 
@@ -253,72 +203,56 @@ fn keep_rates(
     texts: &[u8],
     numbers: &[usize],
     k: usize,
-    tables: Tables,
+    tables: &Tables,
     periods: &mut [u8; 512],
     inputs: &mut [bool; 512],
 )
     requires { (k < parts_in numbers.now) × (lent texts.now numbers.now ≡ accepted tt)
-        × ((a : Part) × RatesOf (program_text texts.now (texts_at numbers.now k)) tables a) }
+        × ((a : Part) × RatesOf (program_text texts.now (texts_at numbers.now k)) tables.now a) }
     ensures { (parts : List Part) (a : Part) →
-        RatesOf (program_text texts.now (texts_at numbers.now k)) tables a → length parts ≡ k →
+        RatesOf (program_text texts.now (texts_at numbers.now k)) tables.now a → length parts ≡ k →
         RatesBy parts periods.old inputs.old →
         RatesBy (parts ++ (a ∷ [])) periods.new inputs.new }
 {
-    let first = 4 * k;
-    let second = first + 1;
-    let start = numbers[first];
-    let end = start + numbers[second];
-    add_rates(&texts[start..end], tables, k, periods, inputs);
+    add_rates(
+        join_texts::program_of(texts, numbers, k),
+        tables,
+        k,
+        periods,
+        inputs,
+    );
 }
 
-// What the checks of all parts find: the part that is refused, or what is joined of them.
+// What is joined of the parts: their signals, and the rows.
 #[derive(Clone, Copy)]
 pub struct Gathered {
-    pub judged: Judged,
-    pub part: usize,
     pub joint: Joint,
     pub table: Table,
 }
 
-// Checks each part alone, and gathers what is joined.
+// Checks each part alone, and gathers what is joined. A refusal names its part.
 pub fn gather(
     texts: &[u8],
     numbers: &[usize],
     periods: &mut [u8; 512],
     inputs: &mut [bool; 512],
-) -> Gathered
+) -> Result<Gathered, JoinFault>
     requires { lent texts.now numbers.now ≡ accepted tt }
     ensures { RatesBy [] periods.old inputs.old →
         GatheredAs texts.now numbers.now
         (parts_from texts.now numbers.now 0 (parts_in numbers.now))
         periods.new inputs.new result }
 {
-    let parts = numbers.len() / 4;
     let mut joint = Joint::new();
     let mut table = Table::new();
-    let mut k: usize = 0;
-    while k < parts {
-        let checked = check_part(texts, numbers, k);
-        let judged = checked.judged;
-        let Judged::Fine = judged else {
-            return Gathered {
-                judged: judged,
-                part: k,
-                joint: joint,
-                table: table,
-            };
-        };
-        let pair = checked.pair;
-        let tables = pair.tables;
-        keep_rates(texts, numbers, k, tables, periods, inputs);
-        joint = add_part(joint, pair);
-        table = add_table(table, tables, k);
-        k = k + 1;
+    for k in 0..numbers.len() / 4 {
+        let pair = check_part(texts, numbers, k).map_err(|fault| JoinFault {
+            fault,
+            part: Some(k),
+        })?;
+        keep_rates(texts, numbers, k, &pair.tables, periods, inputs);
+        joint.add_part(&pair);
+        table.add_rows(&pair.tables, k);
     }
-    Gathered {
-        judged: Judged::Fine,
-        part: parts,
-        joint: joint,
-        table: table,
-    }
+    Ok(Gathered { joint, table })
 }

@@ -164,14 +164,3 @@ free-next parts links i at inputs e f ka xa =
 pub cut-wrong : (parts : List Part) (links : List ℕ) (i : ℕ) → length links < 4 * i + 4 → is_right parts links i ≡ false
 unfolding is_right
 cut-wrong parts links i lt = rw (lt-leb (4 * i + 4) (length links) lt)
-
-pub quarter : (at i : ℕ) → at ≡ 4 * i → at / 4 ≡ i
-quarter at i e =
-    let m : at % 4 < 4 = mod-lt at (omega arith) in
-    omega (arith, div-add-mod' at 4, m, e)
-
--- Whole links are among the links.
-pub whole-links : (links : List ℕ) (i : ℕ) → 4 * i ≤ length links → i ≤ links_in links
-whole-links links i le =
-    let m : (length links + 3) % 4 < 4 = mod-lt (length links + 3) (omega arith) in
-    omega (arith, div-add-mod' (length links + 3) 4, m)

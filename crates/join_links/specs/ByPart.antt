@@ -1,11 +1,9 @@
 -- The signals of the parts by part and number, 64 entries a part: their periods, and which are INs that no link has yet.
-use Rattle.std.specs.Prelude.{ℕ, zero, ◌+◌, ◌*◌, ◌≤◌, ◌<◌, Bool, true, false, cond, not, ◌&&◌, List, ◌≡◌, eqb, length, get_or}
+use Rattle.std.specs.Prelude.{Option, Some, None, ℕ, zero, ◌+◌, ◌*◌, ◌≤◌, ◌<◌, Bool, true, false, cond, not, ◌&&◌, List, ◌≡◌, eqb, length, get_or}
 use Rattle.model.specs.Rules.Join.{link_at, links_in, is_declared, is_right}
 use Rattle.model.specs.Rules.Parts.{Part, part_at}
 use Rattle.model.specs.Rules.Program.{Signal, count, signal_at, is_input}
 use Rattle.model.specs.Rules.Search.{first_below, all_below}
-use Rattle.model.specs.declared.Found.{Found}
-use Rattle.model.specs.declared.Found.TheVariants.{At, Nowhere}
 
 abbrev pub signal_in : List Part → ℕ → ℕ → Signal
 signal_in parts k x = signal_at (part_at parts k).program x
@@ -43,9 +41,9 @@ pub record FreeInputs (parts : List Part) (links : List ℕ) (i : ℕ) (inputs :
   pub each : (k x : ℕ) → k < 8 → x < 64 → get_or inputs (64 * k + x) false ≡ input_in parts k x && is_free links i k x
 
 -- How many links come before the lowest wrong one; all, where none is wrong.
-abbrev pub passed_of : ℕ → Found → ℕ
-passed_of all (At i) = i
-passed_of all Nowhere = all
+abbrev pub passed_of : ℕ → Option ℕ → ℕ
+passed_of all (Some i) = i
+passed_of all None = all
 
 abbrev pub passed : List Part → List ℕ → ℕ
 passed parts links = passed_of (links_in links) (first_below (links_in links) (λ i. not (is_right parts links i)))

@@ -7,8 +7,7 @@ ghost use Rattle.model.specs.Rules.Parts.{Part};
 ghost use Rattle.basics.specs.Judgement.{judgement_of};
 ghost use Rattle.join_links.specs.ByPart.{period_in, PeriodsBy, FreeInputs, passed};
 
-use basics::Judged;
-use model::refusals;
+use model::{Fault, Refusal};
 
 // The period of a signal by part and number, 0 where there is no such signal.
 fn period_of(periods: &[u8; 512], part: u8, signal: u8) -> u8
@@ -54,23 +53,22 @@ fn is_right(links: &[u8], at: usize, periods: &[u8; 512], inputs: &[bool; 512]) 
 }
 
 // 31 at the lowest wrong link. An IN that is linked is no more to be linked.
-pub fn judge_links(links: &[u8], periods: &[u8; 512], inputs: &mut [bool; 512]) -> Judged
+pub fn judge_links(links: &[u8], periods: &[u8; 512], inputs: &mut [bool; 512]) -> Result<(), Fault>
     ensures { (parts : List Part) → PeriodsBy parts periods.now →
         FreeInputs parts links.now 0 inputs.old → (result ≡ judgement_of (named parts links.now)) ×
         FreeInputs parts links.now (passed parts links.now) inputs.new }
 {
-    let mut at: usize = 0;
-    while at < links.len() {
+    for i in 0..links.len().div_ceil(4) {
+        let at = 4 * i;
         if links.len() - at < 4 {
-            return basics::refuse(refusals::WRONG_LINK, at / 4);
+            return basics::refuse(Refusal::WrongLink, i);
         }
         if !is_right(links, at, periods, inputs) {
-            return basics::refuse(refusals::WRONG_LINK, at / 4);
+            return basics::refuse(Refusal::WrongLink, i);
         }
         let second = at + 1;
         let entry = 64 * basics::from_byte(links[at]) + basics::from_byte(links[second]);
         inputs[entry] = false;
-        at = at + 4;
     }
-    Judged::Fine
+    Ok(())
 }

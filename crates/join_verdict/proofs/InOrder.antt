@@ -1,4 +1,6 @@
 -- The steps of a join's verdict. Assumes nothing.
+use Rattle.std.specs.Prelude.{Option, Some, None, Result, Ok, Err, IsErrAnd}
+use Rattle.std.proofs.lemmas.Result.{err_from_is_err_and}
 use Prim.Native.Nat.{ℕ, zero, suc, ◌+◌, ◌*◌, ◌<◌}
 use mathlib.Core.Bool.{Bool, true, false, cond, not, ◌&&◌, false≢true, true≢false}
 use mathlib.Core.List.{List, []}
@@ -26,31 +28,23 @@ use Rattle.model.specs.Rules.Join.{
 use Rattle.model.specs.Rules.Outcome.{Outcome, accepted, refused}
 use Rattle.model.specs.Rules.Parts.{Part, part_at}
 use Rattle.model.specs.Rules.Program.{count, is_input}
-use Rattle.model.specs.Rules.Search.{first_below, all_below, sum, table}
+use Rattle.model.specs.Rules.Search.{first_below, all_below}
 use Rattle.model.specs.declared.Fault.{Fault}
-use Rattle.model.specs.declared.Found.{Found}
-use Rattle.model.specs.declared.Found.TheVariants.{At, Nowhere}
+use Rattle.model.specs.declared.JoinFault.{JoinFault}
 use Rattle.model.proofs.Basics.Outcomes.{then-accepted, accepted≢refused}
 use Rattle.model.proofs.Pairs.Decide.{is-first}
-use Rattle.basics.specs.declared.Judged.{Judged}
-use Rattle.basics.specs.declared.Judged.TheVariants as Judged
-use Rattle.basics.specs.Judgement.{Answers}
 use Rattle.join_links.specs.ByPart.{signal_in, input_in, FreeInputs}
 use Rattle.model.proofs.Joining.Lent.{link-in}
-use Rattle.join_gather.specs.Gathering.{GatheredAs}
-use Rattle.join_gather.specs.Joint.{JointOf}
+use Rattle.join_gather.specs.Gathering.{Taken, GatheredAs}
 use Rattle.join_gather.specs.Rates.{RatesBy}
-use Rattle.join_gather.specs.Rows.{TableOf}
 use Rattle.join_gather.specs.declared.Gathered.{Gathered}
-use Rattle.model.specs.Rules.Join.{program_total}
-use Rattle.join_verdict.specs.Verdict.{named_by}
-use Rattle.join_verdict.specs.declared.Verdict.{Verdict}
 
-pub answers-map : {A : Type 0} (Q R : A → Type 0) (o : Outcome A) (j : Judged) → ((a : A) → o ≡ accepted a → Q a → R a) →
-    Answers Q o j → Answers R o j
-unfolding Answers
-answers-map Q R (accepted a) j f h = (h.0, f a refl h.1)
-answers-map Q R (refused g) j f h = h
+-- What a `?` hands on, of any error.
+pub handed : {B E : Type 0} {e : E} (r : Result B E) → IsErrAnd r (λ g. g ≡ e) → r ≡ Err e
+handed r h = let p = err_from_is_err_and r h in p.1 ∙ ap Err p.2
+
+ok≢err : {B E : Type 0} (r : Result B E) (b : B) (e : E) → r ≡ Ok b → r ≡ Err e → ⊥
+ok≢err r b e p q = let z : ◌≡◌ {A = ℕ} 0 1 = cc in omega arith
 
 none-declared : (k x : ℕ) → is_declared [] k x ≡ false
 none-declared k x = ap (λ (b : Bool). b && ltb x (count (part_at [] k).program)) (le-ltb k 0 (omega arith))
@@ -76,7 +70,7 @@ rates-none =
     }
 
 -- The part named.
-pub none_lent : (texts numbers : List ℕ) (f : Fault) → lent texts numbers ≡ refused f → part_named texts numbers ≡ Nowhere
+pub none_lent : (texts numbers : List ℕ) (f : Fault) → lent texts numbers ≡ refused f → part_named texts numbers ≡ None
 unfolding part_named
 none_lent texts numbers f e =
     ap (λ (o : Outcome (Unit {0})).
@@ -97,38 +91,37 @@ all-passed texts numbers k (suc n) parts e (suc i) lt =
     rw z (all-passed texts numbers (suc k) n b.0 b.1 i (omega arith))
 
 pub none-parts : (texts numbers : List ℕ) (parts : List Part) → lent texts numbers ≡ accepted tt →
-    parts_from texts numbers 0 (parts_in numbers) ≡ accepted parts → part_named texts numbers ≡ Nowhere
+    parts_from texts numbers 0 (parts_in numbers) ≡ accepted parts → part_named texts numbers ≡ None
 unfolding part_named
 none-parts texts numbers parts l e =
     ap (λ (o : Outcome (Unit {0})).
     named_after o (first_below (parts_in numbers) (λ k. is_refused (part_pair texts (texts_at numbers k))))) l ∙
     go (first_below (parts_in numbers) (λ k. is_refused (part_pair texts (texts_at numbers k)))) refl
   where
-    go : (f : Found) → first_below (parts_in numbers) (λ k. is_refused (part_pair texts (texts_at numbers k))) ≡ f → f ≡ Nowhere
-    go Nowhere q = refl
-    go (At k) q =
-        let h = is-first (parts_in numbers) (λ k. is_refused (part_pair texts (texts_at numbers k))) (At k) q in
+    go : (f : Option ℕ) → first_below (parts_in numbers) (λ k. is_refused (part_pair texts (texts_at numbers k))) ≡ f → f ≡ None
+    go None q = refl
+    go (Some k) q =
+        let h = is-first (parts_in numbers) (λ k. is_refused (part_pair texts (texts_at numbers k))) (Some k) q in
         let p = all-passed texts numbers 0 (parts_in numbers) parts e k (omega arith) in
         absurd (true≢false (sym h.2 ∙ ap (λ (n : ℕ). is_refused (part_pair texts (texts_at numbers n))) (sym (zero-add k)) ∙ p))
 
 -- What gathering finds.
-module _ (texts numbers : List ℕ) (periods : List ℕ) (inputs : List Bool) (r : Gathered) where
-  pub gathered-fine : (o : Outcome (List Part)) → GatheredAs texts numbers o periods inputs r → r.judged ≡ Judged.Fine →
-      (parts : List Part) × (o ≡ accepted parts) × JointOf parts (program_total numbers) r.joint ×
-      RatesBy parts periods inputs × TableOf parts r.table
-  unfolding GatheredAs program_total
-  gathered-fine (accepted parts) h e =
-      let joint =
-      subst (λ (n : ℕ). JointOf parts (sum (table n (λ k. (texts_at numbers k).program_length))) r.joint) h.1
-      h.2.joint-of in
-      (parts, refl, joint, h.2.rates, h.2.table_of)
-  gathered-fine (refused f) h e = let z : ◌≡◌ {A = ℕ} 0 1 = cc (h.0, e) in absurd (omega arith)
-
-  pub gathered-refused : (o : Outcome (List Part)) (f : Fault) → GatheredAs texts numbers o periods inputs r →
-      r.judged ≡ Judged.Refused f → (o ≡ refused f) × (part_named texts numbers ≡ At r.part)
+module _ (texts numbers : List ℕ) (periods : List ℕ) (inputs : List Bool) (r : Result Gathered JoinFault) where
+  pub gathered-fine : (o : Outcome (List Part)) (g : Gathered) → GatheredAs texts numbers o periods inputs r → r ≡ Ok g →
+      (parts : List Part) × (o ≡ accepted parts) × Taken numbers periods inputs g parts
   unfolding GatheredAs
-  gathered-refused (accepted parts) f h e = let z : ◌≡◌ {A = ℕ} 0 1 = cc (h.0, e) in absurd (omega arith)
-  gathered-refused (refused g) f h e = let same : g ≡ f = cc (h.0, e) in (ap refused same, h.1)
+  gathered-fine (accepted parts) g h e =
+      let same : h.0 ≡ g = cc h.1 in
+      (parts, refl, subst (λ (x : Gathered). Taken numbers periods inputs x parts) same h.2)
+  gathered-fine (refused f) g h e = absurd (ok≢err r g _ e h.1)
+
+  pub gathered-refused : (o : Outcome (List Part)) (e : JoinFault) → GatheredAs texts numbers o periods inputs r → r ≡ Err e →
+      (o ≡ refused e.fault) × (part_named texts numbers ≡ e.part)
+  unfolding GatheredAs
+  gathered-refused (accepted parts) e h q = absurd (ok≢err r h.0 e h.1 q)
+  gathered-refused (refused f) e h q =
+      let same : record { fault = f; part = Some h.0 } ≡ e = cc h.1 in
+      (ap (λ (x : JoinFault). refused x.fault) same, h.2 ∙ ap (λ (x : JoinFault). x.part) same)
 
 pub free-none : (parts : List Part) (periods links : List ℕ) (inputs : List Bool) → RatesBy parts periods inputs →
     FreeInputs parts links 0 inputs
@@ -146,14 +139,10 @@ pub all_right : (parts : List Part) (links : List ℕ) → named parts links ≡
 unfolding named
 all_right parts links e i lt = go (first_below (links_in links) (λ i. not (is_right parts links i))) refl e
   where
-    go : (f : Found) → first_below (links_in links) (λ i. not (is_right parts links i)) ≡ f → named_of parts f ≡ accepted tt →
+    go : (f : Option ℕ) → first_below (links_in links) (λ i. not (is_right parts links i)) ≡ f → named_of parts f ≡ accepted tt →
         is_right parts links i ≡ true
-    go (At k) q n = absurd (accepted≢refused _ tt _ n refl)
-    go Nowhere q n =
+    go (Some k) q n = absurd (accepted≢refused _ tt _ n refl)
+    go None q n =
         not-false _
-        (is-first (links_in links) (λ i. not (is_right parts links i)) Nowhere q i (omega arith)
+        (is-first (links_in links) (λ i. not (is_right parts links i)) None q i (omega arith)
         (omega (arith, link-in links i lt)))
-
--- An answer that names none.
-pub unnamed-none : (r : Verdict) → r.named ≡ false → Nowhere ≡ named_by r
-unnamed-none r e = sym (ap (λ (b : Bool). cond b (At r.part) Nowhere) e)

@@ -1,21 +1,14 @@
 -- What all checks of a join answer.
-use Rattle.std.specs.Prelude.{ℕ, false, cond, List, ◌≡◌}
+use Rattle.std.specs.Prelude.{Result, ℕ, List, ◌≡◌}
 use Rattle.model.specs.Rules.Compile.{Pair}
-use Rattle.model.specs.Rules.Join.{parts_in, program_total, parts_from, links_of, one_table, joined_verdict, joined_pair_of, part_named}
+use Rattle.model.specs.Rules.Join.{parts_in, program_total, parts_from, links_of, one_table, joined_verdict, joined_pair_of, part_named, without_part, part_in}
 use Rattle.model.specs.Rules.Outcome.{accepted}
 use Rattle.model.specs.Rules.Parts.{Part}
-use Rattle.model.specs.declared.Found.{Found}
-use Rattle.model.specs.declared.Found.TheVariants.{At, Nowhere}
-use Rattle.basics.specs.declared.Judged.{Judged}
+use Rattle.model.specs.declared.JoinFault.{JoinFault}
 use Rattle.basics.specs.Judgement.{Answers}
 use Rattle.join_gather.specs.Rows.{TableOf}
 use Rattle.join_whole.specs.Whole.{Joining}
 use Rattle.join_verdict.specs.declared.Verdict.{Verdict}
-
--- A refusal that names no part.
-pub record Unnamed (j : Judged) (r : Verdict) : Type 0 where
-  pub judged : r.judged ≡ j
-  pub named : r.named ≡ false
 
 -- The joined tables are those of the accepted pair q.
 pub record JoinChecks (texts numbers links : List ℕ) (r : Verdict) (q : Pair) : Type 0 where
@@ -27,11 +20,7 @@ pub record JoinChecks (texts numbers links : List ℕ) (r : Verdict) (q : Pair) 
   pub joined : joined_verdict parts (links_of links) ≡ accepted q
   pub hyper : r.hypercycle ≡ q.hypercycle
 
--- The part that an answer names.
-abbrev pub named_by : Verdict → Found
-named_by r = cond r.named (At r.part) Nowhere
-
 -- The definition's refusal with the part that it names, or the tables of the joined pair.
-pub record VerdictAs (texts numbers links : List ℕ) (r : Verdict) : Type 0 where
-  pub answer : Answers (JoinChecks texts numbers links r) (joined_pair_of texts numbers links) r.judged
-  pub part : part_named texts numbers ≡ named_by r
+pub record VerdictAs (texts numbers links : List ℕ) (r : Result Verdict JoinFault) : Type 0 where
+  pub answer : Answers (λ q v. JoinChecks texts numbers links v q) (joined_pair_of texts numbers links) (without_part r)
+  pub part : part_named texts numbers ≡ part_in r

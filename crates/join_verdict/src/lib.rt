@@ -6,87 +6,43 @@ ghost use Rattle.model.specs.Rules.Join.{one_table};
 ghost use Rattle.model.specs.Rules.Parts.{Part};
 ghost use Rattle.basics.specs.Judgement.{judgement_of};
 ghost use Rattle.join_gather.specs.Rows.{TableOf};
-ghost use Rattle.join_verdict.specs.Verdict.{Unnamed, VerdictAs};
+ghost use Rattle.join_verdict.specs.Verdict.{VerdictAs};
 
-use basics::Judged;
 use join_gather::{Joint, Table};
-use model::refusals;
+use model::{Fault, JoinFault, Refusal};
 
-// What the checks of a join find: whether a refusal names a part, and which; what is joined is of use where it is fine.
+// What is joined of the parts of an accepted join, and its hypercycle.
 #[derive(Clone, Copy)]
 pub struct Verdict {
-    pub judged: Judged,
-    pub named: bool,
-    pub part: usize,
     pub joint: Joint,
     pub table: Table,
     pub hypercycle: usize,
 }
 
-// A refusal that names no part.
-fn unnamed(judged: Judged) -> Verdict
-    ensures { Unnamed judged result }
-{
-    Verdict {
-        judged: judged,
-        named: false,
-        part: 0,
-        joint: Joint::new(),
-        table: Table::new(),
-        hypercycle: 0,
-    }
-}
-
 // 31 for rows in two parts.
-fn one_table(table: Table) -> Judged
+fn one_table(table: Table) -> Result<(), Fault>
     ensures { (parts : List Part) → TableOf parts table → result ≡ judgement_of (one_table parts) }
 {
     if 1 < table.parts {
-        return basics::refuse(refusals::WRONG_LINK, 0);
+        return basics::refuse(Refusal::WrongLink, 0);
     }
-    Judged::Fine
+    Ok(())
 }
 
-// 1, 4 and 27; each part alone; 31 for links, then for rows; the joined 4, 9, 14, 15.
-pub fn check_join(texts: &[u8], numbers: &[usize], links: &[u8]) -> Verdict
+// All checks of a join, in the stated order. A refusal inside a part names it.
+pub fn check_join(texts: &[u8], numbers: &[usize], links: &[u8]) -> Result<Verdict, JoinFault>
     ensures { VerdictAs texts.now numbers.now links.now result }
 {
-    let lent = join_texts::check_texts(texts, numbers);
-    let Judged::Fine = lent else {
-        return unnamed(lent);
-    };
+    join_texts::check_texts(texts, numbers)?; // 1, 4, 27
     let mut periods: [u8; 512] = [0; 512];
     let mut inputs: [bool; 512] = [false; 512];
-    let gathered = join_gather::gather(texts, numbers, &mut periods, &mut inputs);
-    let parts = gathered.judged;
-    let joint = gathered.joint;
-    let table = gathered.table;
-    let Judged::Fine = parts else {
-        return Verdict {
-            judged: parts,
-            named: true,
-            part: gathered.part,
-            joint: joint,
-            table: table,
-            hypercycle: 0,
-        };
-    };
-    let named = join_links::judge_links(links, &periods, &mut inputs);
-    let Judged::Fine = named else {
-        return unnamed(named);
-    };
-    let rows = one_table(table);
-    let Judged::Fine = rows else {
-        return unnamed(rows);
-    };
-    let whole = join_whole::check_joint(links, joint);
-    let judged = whole.judged;
-    Verdict {
-        judged: judged,
-        named: false,
-        part: 0,
-        joint: joint,
-        table: table,
-        hypercycle: whole.hypercycle,
-    }
+    let gathered = join_gather::gather(texts, numbers, &mut periods, &mut inputs)?; // each part alone
+    join_links::judge_links(links, &periods, &mut inputs)?; // 31 at a link
+    one_table(gathered.table)?; // 31 for rows
+    let hypercycle = join_whole::check_joint(links, &gathered.joint)?; // 4, 9, 14, 15
+    Ok(Verdict {
+        joint: gathered.joint,
+        table: gathered.table,
+        hypercycle,
+    })
 }

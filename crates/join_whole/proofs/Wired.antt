@@ -46,7 +46,7 @@ module _ {parts : List Part} {size : ℕ} {links : List ℕ} {t : Joint} (j : Jo
   unfolding joined_pair wired_with
   wired-chains = sym j.joint-of.chains
 
-  pub wired-cap : q.program.cap ≡ cap_of t.capped t.limit
+  pub wired-cap : q.program.cap ≡ cap_of t.cap
   unfolding joined_pair wired_with
   wired-cap = j.joint-of.cap
 

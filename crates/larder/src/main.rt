@@ -2,14 +2,16 @@
 // and written, and answers are put in words. `larder run FILE` takes the commands from a file, a line each.
 #![tactic(auto)]
 
-use model::{Fault, Found, Joined, Ran, Yielded, refusals};
+ghost use Rattle.std.specs.Prelude.{◌<◌, ◌≤◌, length};
+
+use console::Stop;
+use model::{Fault, JoinFault, Refusal};
 use std::io;
 
-fn say_use(rt: &HostRuntime) -> io::Result<()> {
-    console::print(rt, b"failed\n")?;
-    console::say(
-        rt,
-        b"\
+fn say_use(rt: &HostRuntime) -> Result<(), Stop> {
+    println!(rt; "failed")?;
+    eprint!(rt;
+        "\
         larder compile PROGRAM SCHEDULE IMAGE     writes the image with its tail\n\
         larder report PROGRAM SCHEDULE            what it needs: sizes, and a line a cycle\n\
         larder chart PROGRAM SCHEDULE             the same as an SVG picture\n\
@@ -21,616 +23,339 @@ fn say_use(rt: &HostRuntime) -> io::Result<()> {
         larder list-image IMAGE                   an image in words\n\
         larder labels IMAGE                       a line a signal: number, label, period, phase\n\
         larder convert PROGRAM FILE               a program from when a factor of 1 was allowed\n\
-        larder run FILE                           these commands from a file, a line each\n",
-    )
-}
-
-// What a pair of files is read for.
-#[derive(Clone, Copy)]
-enum Task {
-    Compile,
-    Report,
-    Chart,
-    Moves,
-    Dependents,
-}
-
-// A line that says a number of an image.
-fn print_field(rt: &HostRuntime, text: &[u8], n: usize) -> io::Result<()> {
-    console::print(rt, text)?;
-    console::print_number(rt, n)
-}
-
-// Says L, the length, H and N of an image of n bytes.
-fn print_image(rt: &HostRuntime, image: &[u8], n: usize) -> io::Result<()> {
-    if image.len() < 4 {
-        return Ok(());
-    }
-    print_field(
-        rt,
-        b"L ",
-        basics::from_byte(image[2]) + 256 * basics::from_byte(image[3]),
+        larder run FILE                           these commands from a file, a line each\n"
     )?;
-    print_field(rt, b" length ", n)?;
-    print_field(rt, b" H ", basics::from_byte(image[0]))?;
-    print_field(rt, b" N ", basics::from_byte(image[1]))?;
-    console::print(rt, b"\n")
+    Err(Stop::Said)
 }
 
-// Writes an image of n bytes to a file, and says what it is.
-fn write_image(rt: &HostRuntime, name: &[u8], image: &[u8], n: usize) -> io::Result<()> {
-    if image.len() < n {
-        return Ok(());
+// Reads a file that is to be shorter than the space; a longer one is refused.
+fn read_short<'a>(rt: &HostRuntime, name: &[u8], space: &'a mut [u8]) -> Result<&'a [u8], Stop> {
+    let size = space.len();
+    let bytes = console::read(console::open(rt, name)?, space);
+    if bytes.len() < size {
+        return Ok(bytes);
     }
-    if console::write_file(rt, name, &image[0..n])? {
-        print_image(rt, image, n)?;
-    }
-    Ok(())
-}
-
-fn compile(rt: &HostRuntime, line: &[u8], program: &[u8], schedule: &[u8]) -> io::Result<()> {
-    let mut image: [u8; 24679] = [0; 24679];
-    let compiled = larderlate::compile(program, schedule, &mut image);
-    match compiled {
-        Yielded::Number(n) => write_image(rt, console::word_of(line, 3), &image, n),
-        Yielded::Refused(fault) => explain::refuse_pair(rt, fault, program, schedule),
-    }
-}
-
-// A signal that the input reaches: its number and label.
-fn print_mark(rt: &HostRuntime, marks: &[u8; 64], labels: &[u16; 64], x: usize) -> io::Result<()> {
-    if 63 < x {
-        return Ok(());
-    }
-    if marks[x] == 1 {
-        print_field(rt, b"signal ", x)?;
-        print_field(rt, b" label ", basics::from_entry(labels[x]))?;
-        console::print(rt, b"\n")?;
-    }
-    Ok(())
-}
-
-fn print_marks(rt: &HostRuntime, marks: &[u8; 64], labels: &[u16; 64]) -> io::Result<()> {
-    let mut x: usize = 0;
-    while x < 64 {
-        print_mark(rt, marks, labels, x)?;
-        x = x + 1;
-    }
-    Ok(())
-}
-
-fn print_dependents(
-    rt: &HostRuntime,
-    program: &[u8],
-    schedule: &[u8],
-    input: usize,
-) -> io::Result<()> {
-    let mut marks: [u8; 64] = [0; 64];
-    let ran = larderlate::dependents(program, schedule, input, &mut marks);
-    match ran {
-        Ran::Done => {
-            let table = timetable::of_pair(program, schedule);
-            let labels = table.labels;
-            print_marks(rt, &marks, &labels)
-        }
-        Ran::Refused(fault) => {
-            if fault.number == 48 {
-                explain::refuse_call(rt, fault)
-            } else {
-                explain::refuse_pair(rt, fault, program, schedule)
-            }
-        }
-    }
-}
-
-fn dependents(rt: &HostRuntime, line: &[u8], program: &[u8], schedule: &[u8]) -> io::Result<()> {
-    let input = text_token::number_of(console::word_of(line, 3));
-    match input {
-        Found::At(n) => print_dependents(rt, program, schedule, n),
-        Found::Nowhere => say_use(rt),
-    }
-}
-
-fn run_pair(
-    rt: &HostRuntime,
-    task: Task,
-    line: &[u8],
-    program: &[u8],
-    schedule: &[u8],
-) -> io::Result<()> {
-    match task {
-        Task::Compile => compile(rt, line, program, schedule),
-        Task::Report => print_report::print_report(rt, program, schedule),
-        Task::Chart => print_chart::print_chart(rt, program, schedule),
-        Task::Moves => print_moves::print_moves(rt, program, schedule),
-        Task::Dependents => dependents(rt, line, program, schedule),
-    }
-}
-
-// Reads the program and the schedule that the line names, each one byte past its bound, so that a longer one is seen.
-fn with_pair(rt: &HostRuntime, task: Task, line: &[u8]) -> io::Result<()> {
-    let mut program = [0u8; 8193];
-    let mut schedule = [0u8; 194];
-    let Some(file) = console::open(rt, console::word_of(line, 1))? else {
-        return Ok(());
-    };
-    let p = console::read(file, &mut program);
-    let Some(file2) = console::open(rt, console::word_of(line, 2))? else {
-        return Ok(());
-    };
-    let s = console::read(file2, &mut schedule);
-    run_pair(rt, task, line, &program[..p], &schedule[..s])
-}
-
-// A file that is longer than its bound.
-fn refuse_long(rt: &HostRuntime) -> io::Result<()> {
     explain::refuse_call(
         rt,
         Fault {
-            number: refusals::TEXT_TOO_LONG,
+            number: Refusal::TextTooLong as u8,
             place: 0,
         },
-    )?;
-    Ok(())
+    )
 }
 
-fn print_listing(rt: &HostRuntime, bytes: &[u8]) -> io::Result<()> {
-    let mut text: [u8; 131072] = [0; 131072];
-    let listed = larderlate::list(bytes, &mut text);
-    match listed {
-        Yielded::Number(n) => {
-            if n <= 131072 {
-                console::print(rt, &text[..n])?;
-            }
-        }
-        Yielded::Refused(fault) => explain::refuse_bytes(rt, fault, bytes)?,
-    }
-    Ok(())
+// Runs a command on a program and a schedule, each read one byte past its bound, so that a longer one is seen.
+fn with_pair<F: FnOnce(&[u8], &[u8]) -> Result<(), Stop>>(
+    rt: &HostRuntime,
+    program: &[u8],
+    schedule: &[u8],
+    command: F,
+) -> Result<(), Stop>
+    requires { F.IsAlwaysCallable command }
+{
+    let mut program_space = [0u8; 8193];
+    let mut schedule_space = [0u8; 194];
+    let program = console::read(console::open(rt, program)?, &mut program_space);
+    let schedule = console::read(console::open(rt, schedule)?, &mut schedule_space);
+    command(program, schedule)
 }
 
-fn list(rt: &HostRuntime, line: &[u8]) -> io::Result<()> {
-    let mut bytes = [0u8; 8193];
-    let Some(file) = console::open(rt, console::word_of(line, 1))? else {
+// Writes the n bytes of an image to a file, and says what it is.
+fn write_image(rt: &HostRuntime, name: &[u8], image: &[u8], n: usize) -> Result<(), Stop> {
+    let Some(image) = image.get(..n) else {
         return Ok(());
     };
-    let n = console::read(file, &mut bytes);
-    if 8192 < n {
-        return refuse_long(rt);
-    }
-    print_listing(rt, &bytes[..n])
-}
-
-// Writes the bytes of a text or of a conversion to the file that word 2 of the line names, and says how many they are.
-fn write_bytes(rt: &HostRuntime, line: &[u8], bytes: &[u8], n: usize) -> io::Result<()> {
-    if bytes.len() < n {
-        return Ok(());
-    }
-    if console::write_file(rt, console::word_of(line, 2), &bytes[0..n])? {
-        print_field(rt, b"length ", n)?;
-        console::print(rt, b"\n")?;
+    console::write_file(rt, name, image)?;
+    if let [cycles, signals, low, high, ..] = image {
+        let length = u16::from_le_bytes([*low, *high]);
+        println!(rt; "L {length} length {n} H {cycles} N {signals}")?;
     }
     Ok(())
 }
 
-fn assemble_text(rt: &HostRuntime, line: &[u8], text: &[u8]) -> io::Result<()> {
-    let mut bytes: [u8; 8192] = [0; 8192];
-    let assembled = larderlate::assemble(text, &mut bytes);
-    match assembled {
-        Yielded::Number(n) => write_bytes(rt, line, &bytes, n),
-        Yielded::Refused(fault) => explain::refuse_text(rt, fault, text),
-    }
+fn compile(rt: &HostRuntime, program: &[u8], schedule: &[u8], image: &[u8]) -> Result<(), Stop> {
+    let mut space = [0u8; 24679];
+    let n = larderlate::compile(program, schedule, &mut space).or_else(|fault| explain::refuse_pair(
+        rt, fault, program, schedule,
+    ))?;
+    write_image(rt, image, &space, n)
 }
 
-fn assemble(rt: &HostRuntime, line: &[u8]) -> io::Result<()> {
-    let mut text: [u8; 262145] = [0; 262145];
-    let Some(file) = console::open(rt, console::word_of(line, 1))? else {
-        return Ok(());
-    };
-    let n = console::read(file, &mut text);
-    if 262144 < n {
-        return refuse_long(rt);
-    }
-    assemble_text(rt, line, &text[..n])
-}
-
-fn convert(rt: &HostRuntime, line: &[u8]) -> io::Result<()> {
-    let mut program = [0u8; 8193];
-    let mut result: [u8; 8192] = [0; 8192];
-    let Some(file) = console::open(rt, console::word_of(line, 1))? else {
-        return Ok(());
-    };
-    let p = console::read(file, &mut program);
-    let converted = larderlate::convert(&program[..p], &mut result);
-    match converted {
-        Yielded::Number(n) => write_bytes(rt, line, &result, n),
-        Yielded::Refused(fault) => explain::refuse_bytes(rt, fault, &program[..p]),
-    }
-}
-
-// The line of signal x, whose entry of the tail stands at 4x.
-fn print_label(rt: &HostRuntime, tail: &[u8], x: usize) -> io::Result<()> {
-    if 63 < x {
-        return Ok(());
-    }
-    let at = 4 * x;
-    if tail.len() < at + 4 {
-        return Ok(());
-    }
-    console::print_number(rt, x)?;
-    print_field(
-        rt,
-        b" ",
-        basics::from_byte(tail[at]) + 256 * basics::from_byte(tail[at + 1]),
-    )?;
-    print_field(rt, b" ", basics::from_byte(tail[at + 2]))?;
-    print_field(rt, b" ", basics::from_byte(tail[at + 3]))?;
-    console::print(rt, b"\n")
-}
-
-fn print_tail(rt: &HostRuntime, tail: &[u8]) -> io::Result<()> {
-    let mut x: usize = 0;
-    while x < 64 {
-        print_label(rt, tail, x)?;
-        x = x + 1;
-    }
-    Ok(())
-}
-
-fn print_labels(rt: &HostRuntime, image: &[u8]) -> io::Result<()> {
-    let length = larderlate::tail_length(image);
-    match length {
-        Yielded::Number(_) => print_tail(rt, larderlate::tail(image)),
-        Yielded::Refused(fault) => explain::refuse_call(rt, fault),
-    }
-}
-
-// No image with its tail is longer than 65,791 bytes; one more is read, so that a longer file is seen.
-fn with_image(rt: &HostRuntime, line: &[u8], labels: bool) -> io::Result<()> {
-    let mut image: [u8; 65792] = [0; 65792];
-    let Some(file) = console::open(rt, console::word_of(line, 1))? else {
-        return Ok(());
-    };
-    let n = console::read(file, &mut image);
-    if labels {
-        print_labels(rt, &image[..n])
+fn refuse_input<T>(
+    rt: &HostRuntime,
+    fault: Fault,
+    program: &[u8],
+    schedule: &[u8],
+) -> Result<T, Stop> {
+    if fault.number == Refusal::NoInput as u8 {
+        explain::refuse_call(rt, fault)
     } else {
-        print_image::print_image(rt, &image[..n])
+        explain::refuse_pair(rt, fault, program, schedule)
     }
+}
+
+// The signals that the input reaches, each with its label.
+fn dependents(rt: &HostRuntime, program: &[u8], schedule: &[u8], input: &[u8]) -> Result<(), Stop> {
+    let Some(input) = text_token::number_of(input) else {
+        return say_use(rt);
+    };
+    let mut marks = [0u8; 64];
+    larderlate::dependents(program, schedule, input, &mut marks).or_else(|fault| refuse_input(
+        rt, fault, program, schedule,
+    ))?;
+    let table = timetable::of_pair(program, schedule).or_else(|fault| explain::refuse_pair(
+        rt, fault, program, schedule,
+    ))?;
+    for (x, (mark, label)) in marks.iter().zip(&table.labels).enumerate() {
+        if *mark == 1 {
+            println!(rt; "signal {x} label {label}")?;
+        }
+    }
+    Ok(())
+}
+
+fn list(rt: &HostRuntime, file: &[u8]) -> Result<(), Stop> {
+    let mut space = [0u8; 8193];
+    let mut text = [0u8; 131072];
+    let bytes = read_short(rt, file, &mut space)?;
+    let n = larderlate::list(bytes, &mut text).or_else(|fault| explain::refuse_bytes(
+        rt, fault, bytes,
+    ))?;
+    if let Some(text) = text.get(..n) {
+        rt.stdout().write_all(text)?;
+    }
+    Ok(())
+}
+
+// Writes the n bytes of a text or of a conversion to a file, and says how many they are.
+fn write_bytes(rt: &HostRuntime, file: &[u8], bytes: &[u8], n: usize) -> Result<(), Stop> {
+    if let Some(bytes) = bytes.get(..n) {
+        console::write_file(rt, file, bytes)?;
+        println!(rt; "length {n}")?;
+    }
+    Ok(())
+}
+
+fn assemble(rt: &HostRuntime, text: &[u8], file: &[u8]) -> Result<(), Stop> {
+    let mut space = [0u8; 262145];
+    let mut bytes = [0u8; 8192];
+    let text = read_short(rt, text, &mut space)?;
+    let n = larderlate::assemble(text, &mut bytes).or_else(|fault| explain::refuse_text(
+        rt, fault, text,
+    ))?;
+    write_bytes(rt, file, &bytes, n)
+}
+
+fn convert(rt: &HostRuntime, program: &[u8], file: &[u8]) -> Result<(), Stop> {
+    let mut space = [0u8; 8193];
+    let mut bytes = [0u8; 8192];
+    let program = console::read(console::open(rt, program)?, &mut space);
+    let n = larderlate::convert(program, &mut bytes).or_else(|fault| explain::refuse_bytes(
+        rt, fault, program,
+    ))?;
+    write_bytes(rt, file, &bytes, n)
+}
+
+// A line a signal, from its entry in the tail.
+fn print_labels(rt: &HostRuntime, image: &[u8]) -> Result<(), Stop> {
+    larderlate::tail_length(image).or_else(|fault| explain::refuse_call(rt, fault))?;
+    for (x, entry) in larderlate::tail(image).chunks_exact(4).enumerate() {
+        if let [low, high, period, phase] = entry {
+            let label = u16::from_le_bytes([*low, *high]);
+            println!(rt; "{x} {label} {period} {phase}")?;
+        }
+    }
+    Ok(())
+}
+
+// Runs a command on an image. None with its tail is longer than 65,791 bytes; one more is read, so that a longer file is seen.
+fn with_image<F: FnOnce(&[u8]) -> Result<(), Stop>>(
+    rt: &HostRuntime,
+    image: &[u8],
+    command: F,
+) -> Result<(), Stop>
+    requires { F.IsAlwaysCallable command }
+{
+    let mut space = [0u8; 65792];
+    command(console::read(console::open(rt, image)?, &mut space))
 }
 
 // How many texts a join is read from: at most nine parts, so that a ninth is refused by the call.
 const TEXTS: usize = 18;
 
-// The next text of a join: where it ends in the buffer, or that its file failed.
-#[derive(Clone, Copy)]
-enum Next {
-    At(usize),
-    Failed,
+// The texts of a join in one buffer, and four numbers a part: start and length of its program and of its schedule.
+#[derive(Drop)]
+struct Parts {
+    texts: [u8; 75483],
+    numbers: [usize; 36],
 }
 
-// Reads the text that word i of the line names to `at` of the buffer, one byte past its bound.
-fn read_text(
-    rt: &HostRuntime,
-    line: &[u8],
-    i: usize,
-    texts: &mut [u8],
-    at: usize,
-    bound: usize,
-) -> io::Result<Next> {
-    let Some(file) = console::open(rt, console::word_of(line, i))? else {
-        return Ok(Next::Failed);
-    };
-    if texts.len() < at {
-        return Ok(Next::Failed);
-    }
-    if texts.len() - at < bound {
-        return Ok(Next::Failed);
-    }
-    let n = console::read(file, &mut texts[at..at + bound]);
-    if bound < n {
-        return Ok(Next::Failed);
-    }
-    Ok(Next::At(at + n))
-}
-
-// The bound of text j, with one byte more: programs and schedules take turns.
-fn bound_of(j: usize) -> usize {
-    if j % 2 == 0 { 8193 } else { 194 }
-}
-
-fn keep_number(numbers: &mut [usize], i: usize, n: usize) {
-    if i < numbers.len() {
-        numbers[i] = n;
-    }
-}
-
-// Reads text j of a join, of `count`, and keeps its start and length; answers where the next goes.
-fn read_next(
-    rt: &HostRuntime,
-    line: &[u8],
-    j: usize,
-    count: usize,
-    texts: &mut [u8],
-    numbers: &mut [usize],
-    at: usize,
-) -> io::Result<Next> {
-    if count <= j {
-        return Ok(Next::At(at));
-    }
-    if 17 < j {
-        return Ok(Next::Failed);
-    }
-    let next = read_text(rt, line, j + 3, texts, at, bound_of(j))?;
-    if let Next::At(end) = next {
-        keep_number(numbers, 2 * j, at);
-        if at <= end {
-            keep_number(numbers, 2 * j + 1, end - at);
+impl Parts {
+    // Reads the texts, each one byte past its bound: programs and schedules take turns.
+    fn read(&mut self, rt: &HostRuntime, names: &[&[u8]]) -> Result<(), Stop>
+        requires { length names.now ≤ 18 }
+    {
+        let mut at = 0;
+        for (j, name) in names.iter().enumerate() {
+            let bound = if j % 2 == 0 { 8193 } else { 194 };
+            let file = console::open(rt, name)?;
+            let end = self.texts.len().min(at + bound);
+            let n = console::read(file, &mut self.texts[at..end]).len();
+            self.numbers[2 * j] = at;
+            self.numbers[2 * j + 1] = n;
+            at += n;
         }
+        Ok(())
     }
-    Ok(next)
-}
 
-// Reads all texts of a join that the line names, from word 3 on, with the start and length of each.
-fn read_texts(
-    rt: &HostRuntime,
-    line: &[u8],
-    count: usize,
-    texts: &mut [u8],
-    numbers: &mut [usize],
-) -> io::Result<Next> {
-    let mut at: usize = 0;
-    let mut j: usize = 0;
-    while j < 18 {
-        let next = read_next(rt, line, j, count, texts, numbers, at)?;
-        let Next::At(end) = next else {
-            return Ok(Next::Failed);
-        };
-        at = end;
-        j = j + 1;
+    // Text j, where it lies in the buffer.
+    fn text(&self, j: usize) -> Option<&[u8]>
+        requires { j < 18 }
+    {
+        let start = self.numbers[2 * j];
+        let size = self.numbers[2 * j + 1];
+        self.texts.get(start..)?.get(..size)
     }
-    Ok(Next::At(at))
-}
-
-// Text j of a join, where it lies in the buffer.
-fn text_of<'a>(texts: &'a [u8], numbers: &[usize], j: usize) -> &'a [u8] {
-    if 17 < j {
-        return &texts[..0];
-    }
-    if numbers.len() < 36 {
-        return &texts[..0];
-    }
-    let start = numbers[2 * j];
-    let size = numbers[2 * j + 1];
-    if texts.len() < start {
-        return &texts[..0];
-    }
-    if texts.len() - start < size {
-        return &texts[..0];
-    }
-    &texts[start..start + size]
 }
 
 // A refusal inside a part.
-fn refuse_part(
-    rt: &HostRuntime,
-    fault: Fault,
-    part: usize,
-    texts: &[u8],
-    numbers: &[usize],
-) -> io::Result<()> {
+fn refuse_part(rt: &HostRuntime, fault: Fault, part: usize, parts: &Parts) -> Result<(), Stop> {
     explain::refuse(rt, fault)?;
-    console::say(rt, b", part ")?;
-    console::say_number(rt, part)?;
-    if part < 9 {
-        let program = text_of(texts, numbers, 2 * part);
-        let schedule = text_of(texts, numbers, 2 * part + 1);
+    eprint!(rt; ", part {part}")?;
+    if part < 9
+        && let Some(program) = parts.text(2 * part)
+        && let Some(schedule) = parts.text(2 * part + 1)
+    {
         explain::say_where(rt, fault, program, schedule)?;
     }
-    Ok(())
+    Err(Stop::Said)
 }
 
 // A refusal of the parts together: the link or the cycle.
-fn refuse_join(rt: &HostRuntime, fault: Fault) -> io::Result<()> {
+fn refuse_join(rt: &HostRuntime, fault: Fault) -> Result<(), Stop> {
     explain::refuse(rt, fault)?;
-    let number = fault.number;
-    match number {
-        14 | 31 => console::say(rt, b", link ")?,
-        15 => console::say(rt, b", cycle ")?,
-        _ => console::say(rt, b", ")?,
-    }
-    console::say_number(rt, fault.place)?;
-    console::say(rt, b"\n")
-}
-
-fn join_texts(
-    rt: &HostRuntime,
-    line: &[u8],
-    links: &[u8],
-    texts: &[u8],
-    numbers: &[usize],
-    count: usize,
-) -> io::Result<()> {
-    let mut image: [u8; 24679] = [0; 24679];
-    if numbers.len() < count {
-        return Ok(());
-    }
-    let joined = larderlate::join(texts, &numbers[0..count], links, &mut image);
-    match joined {
-        Joined::Length(n) => write_image(rt, console::word_of(line, 2), &image, n),
-        Joined::Refused(fault) => refuse_join(rt, fault),
-        Joined::RefusedIn(part, fault) => refuse_part(rt, fault, part, texts, numbers),
-    }
-}
-
-// Joins the parts that the line names, each by a program and a schedule, with the links of a file.
-fn join(rt: &HostRuntime, line: &[u8], count: usize) -> io::Result<()> {
-    let mut links: [u8; 1025] = [0; 1025];
-    let mut texts: [u8; 75483] = [0; 75483];
-    let mut numbers: [usize; 36] = [0; 36];
-    let Some(file) = console::open(rt, console::word_of(line, 1))? else {
-        return Ok(());
+    let what = match Refusal::try_from(fault.number) {
+        Ok(Refusal::ReadUnmet | Refusal::WrongLink) => "link ",
+        Ok(Refusal::OverCap) => "cycle ",
+        _ => "",
     };
-    let n = console::read(file, &mut links);
-    if 1024 < n {
-        return refuse_long(rt);
-    }
-    let next = read_texts(rt, line, count, &mut texts, &mut numbers)?;
-    let Next::At(_) = next else {
-        return Ok(());
+    eprintln!(rt; ", {what}{}", fault.place)?;
+    Err(Stop::Said)
+}
+
+// Joins parts, each by a program and a schedule, with the links of a file.
+fn join(rt: &HostRuntime, links: &[u8], image: &[u8], texts: &[&[u8]]) -> Result<(), Stop>
+    requires { length texts.now ≤ 18 }
+{
+    let mut space = [0u8; 1025];
+    let links = read_short(rt, links, &mut space)?;
+    let mut parts = Parts {
+        texts: [0; 75483],
+        numbers: [0; 36],
     };
-    if TEXTS < count {
-        return Ok(());
+    parts.read(rt, texts)?;
+    let numbers = &parts.numbers[..2 * texts.len()];
+    let mut bytes = [0u8; 24679];
+    match larderlate::join(&parts.texts, numbers, links, &mut bytes) {
+        Ok(n) => write_image(rt, image, &bytes, n),
+        Err(JoinFault { fault, part: None }) => refuse_join(rt, fault),
+        Err(
+            JoinFault {
+                fault,
+                part: Some(part),
+            },
+        ) => refuse_part(rt, fault, part, &parts),
     }
-    join_texts(rt, line, &links[..n], &texts, &numbers, 2 * count)
 }
 
-// Whether the line is this command with so many words.
-fn is_command(line: &[u8], name: &[u8], words: usize, count: usize) -> bool {
-    if words != count {
-        return false;
-    }
-    console::is_same(console::word_of(line, 0), name)
-}
-
-// A join has LINKS and IMAGE, then a program and a schedule a part.
-fn is_join(line: &[u8], words: usize) -> bool {
-    if words < 5 {
-        return false;
-    }
-    if TEXTS + 3 < words {
-        return false;
-    }
-    if words % 2 == 0 {
-        return false;
-    }
-    console::is_same(console::word_of(line, 0), b"join")
-}
-
-// The commands on a program and a schedule; whether the line is one.
-fn run_on_pair(rt: &HostRuntime, line: &[u8], words: usize) -> io::Result<bool> {
-    if is_command(line, b"compile", words, 4) {
-        with_pair(rt, Task::Compile, line)?;
-    } else if is_command(line, b"report", words, 3) {
-        with_pair(rt, Task::Report, line)?;
-    } else if is_command(line, b"chart", words, 3) {
-        with_pair(rt, Task::Chart, line)?;
-    } else if is_command(line, b"moves", words, 3) {
-        with_pair(rt, Task::Moves, line)?;
-    } else if is_command(line, b"dependents", words, 4) {
-        with_pair(rt, Task::Dependents, line)?;
-    } else {
-        return Ok(false);
-    }
-    Ok(true)
-}
-
-// The commands on one file; whether the line is one.
-fn run_on_file(rt: &HostRuntime, line: &[u8], words: usize) -> io::Result<bool> {
-    if is_command(line, b"list", words, 2) {
-        list(rt, line)?;
-    } else if is_command(line, b"assemble", words, 3) {
-        assemble(rt, line)?;
-    } else if is_command(line, b"convert", words, 3) {
-        convert(rt, line)?;
-    } else if is_command(line, b"list-image", words, 2) {
-        with_image(rt, line, false)?;
-    } else if is_command(line, b"labels", words, 2) {
-        with_image(rt, line, true)?;
-    } else {
-        return Ok(false);
-    }
-    Ok(true)
-}
-
-// Carries out one command line, or says how the program is used.
-fn run_line(rt: &HostRuntime, line: &[u8]) -> io::Result<()> {
-    let words = console::count_words(line);
-    if run_on_pair(rt, line, words)? {
-        return Ok(());
-    }
-    if run_on_file(rt, line, words)? {
-        return Ok(());
-    }
-    if is_join(line, words) {
-        if 3 <= words {
-            join(rt, line, words - 3)?;
+// The commands on a program and a schedule.
+fn run_on_pair(rt: &HostRuntime, words: &[&[u8]]) -> Result<(), Stop> {
+    match words {
+        [b"compile", program, schedule, image] => {
+            with_pair(rt, program, schedule, |p, s| compile(rt, p, s, image))
         }
-        return Ok(());
+        [b"report", program, schedule] => with_pair(rt, program, schedule, |p, s| {
+            print_report::print_report(rt, p, s)
+        }),
+        [b"chart", program, schedule] => with_pair(rt, program, schedule, |p, s| {
+            print_chart::print_chart(rt, p, s)
+        }),
+        [b"moves", program, schedule] => with_pair(rt, program, schedule, |p, s| {
+            print_moves::print_moves(rt, p, s)
+        }),
+        [b"dependents", program, schedule, input] => {
+            with_pair(rt, program, schedule, |p, s| dependents(rt, p, s, input))
+        }
+        _ => say_use(rt),
     }
-    say_use(rt)
 }
 
-// Carries out the command whose words stand at the start of the line.
-fn run_taken(rt: &HostRuntime, line: &mut [u8], n: usize) -> io::Result<()> {
-    if n == 0 {
-        return Ok(());
+// Carries out a command, or says how the program is used.
+fn run(rt: &HostRuntime, words: &[&[u8]]) -> Result<(), Stop> {
+    match words {
+        [b"list", file] => list(rt, file),
+        [b"assemble", text, file] => assemble(rt, text, file),
+        [b"convert", program, file] => convert(rt, program, file),
+        [b"list-image", image] => with_image(rt, image, |i| print_image::print_image(rt, i)),
+        [b"labels", image] => with_image(rt, image, |i| print_labels(rt, i)),
+        [b"join", links, image, texts @ ..]
+            if 0 < texts.len() && texts.len() <= TEXTS && texts.len() % 2 == 0 => {
+            join(rt, links, image, texts)
+        }
+        _ => run_on_pair(rt, words),
     }
-    if line.len() <= n {
-        return Ok(());
-    }
-    line[n] = 0;
-    let end = n + 1;
-    if line.len() < end {
-        return Ok(());
-    }
-    run_line(rt, &line[0..end])
 }
 
-// A blank ends a word.
-fn ended(byte: u8) -> u8 {
-    if byte == 32 { 0 } else { byte }
+// All is well where what is wrong has been said.
+fn finish(done: Result<(), Stop>) -> io::Result<()> {
+    match done {
+        Ok(()) | Err(Stop::Said) => Ok(()),
+        Err(Stop::Output(error)) => Err(error),
+    }
 }
 
-// Takes the next byte of a file of commands, and shows it: a blank ends a word, the end of the line ends the command, which is
-// then carried out.
-fn take_byte(rt: &HostRuntime, line: &mut [u8], n: usize, byte: u8) -> io::Result<usize> {
-    let shown = [byte];
-    console::print(rt, &shown)?;
-    if byte == 10 {
-        run_taken(rt, line, n)?;
-        return Ok(0);
+// Carries out one command line. One with more words than a join may have is none.
+fn run_line(rt: &HostRuntime, line: &[u8]) -> io::Result<()> {
+    let mut words: [&[u8]; 22] = [&[]; 22];
+    let count = console::count_words(line).min(22);
+    // by index: tried `iter_mut`, the borrow checker does not cover references that are written through it
+    for i in 0..count {
+        words[i] = console::word_of(line, i);
     }
-    if line.len() <= n {
-        return Ok(n);
-    }
-    line[n] = ended(byte);
-    Ok(n + 1)
+    finish(run(rt, &words[..count]))
 }
 
-fn run_commands(rt: &HostRuntime, text: &[u8], line: &mut [u8]) -> io::Result<()> {
-    let mut n: usize = 0;
-    let mut i: usize = 0;
-    while i < text.len() {
-        n = take_byte(rt, line, n, text[i])?;
-        i = i + 1;
+// Carries out a command of a file, in which a blank ends a word. An empty one is none, nor is one of over 4,095 bytes.
+fn run_command(rt: &HostRuntime, command: &[u8]) -> io::Result<()> {
+    let mut line = [0u8; 4096];
+    let n = command.len();
+    if n == 0 || line.len() <= n {
+        return Ok(());
+    }
+    for (place, byte) in line.iter_mut().zip(command) {
+        *place = if *byte == b' ' { 0 } else { *byte };
+    }
+    run_line(rt, &line[..n + 1])
+}
+
+// Shows each line of a file of at most 65,535 bytes and carries it out.
+fn run_file(rt: &HostRuntime, file: &[u8]) -> Result<(), Stop> {
+    let mut space = [0u8; 65536];
+    let text = read_short(rt, file, &mut space)?;
+    for line in text.split_inclusive(|byte| *byte == b'\n') {
+        rt.stdout().write_all(line)?;
+        if let Some(command) = line.strip_suffix(b"\n") {
+            run_command(rt, command)?;
+        }
     }
     Ok(())
-}
-
-// A file of commands has at most 65,535 bytes, and a command at most 4,095.
-fn run_file(rt: &HostRuntime, line: &[u8]) -> io::Result<()> {
-    let mut text = [0u8; 65536];
-    let mut command = [0u8; 4096];
-    let Some(file) = console::open(rt, console::word_of(line, 1))? else {
-        return Ok(());
-    };
-    let n = console::read(file, &mut text);
-    if 65535 < n {
-        return refuse_long(rt);
-    }
-    run_commands(rt, &text[..n], &mut command)
 }
 
 fn main(rt: HostRuntime) -> io::Result<()> {
     let mut space = [0u8; 65536];
-    let n = console::arguments(&rt, &mut space);
-    if 65536 < n {
-        return Ok(());
-    }
-    let line = &space[..n];
-    let words = console::count_words(line);
-    if is_command(line, b"run", words, 2) {
-        return run_file(&rt, line);
+    let line = console::arguments(&rt, &mut space);
+    if console::count_words(line) == 2 && console::word_of(line, 0) == b"run".as_slice() {
+        return finish(run_file(&rt, console::word_of(line, 1)));
     }
     run_line(&rt, line)
 }

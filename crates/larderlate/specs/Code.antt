@@ -1,9 +1,7 @@
 -- The answer of a call as one number, for a C caller.
-use Rattle.std.specs.Prelude.{ℕ, ◌+◌, ◌*◌, ◌%◌, List, ◌≡◌}
+use Rattle.std.specs.Prelude.{Option, Some, None, ℕ, ◌+◌, ◌*◌, ◌%◌, List, ◌≡◌}
 use Rattle.model.specs.Rules.Machine.{Effect, stated_length}
 use Rattle.model.specs.Rules.Outcome.{Outcome, accepted, refused}
-use Rattle.model.specs.declared.Found.{Found}
-use Rattle.model.specs.declared.Found.TheVariants.{At, Nowhere}
 use Rattle.model.specs.declared.Sizes.{Sizes}
 
 -- What the call yields; or the refusal's number × 2^32 + its place, which is always below 2^32 (`compile-codable` and its
@@ -17,9 +15,9 @@ abbrev pub Tells : {A : Type 0} → Effect ℕ A → ℕ → List A → Type 0
 Tells e number left = (number ≡ code_number e.answer) × (left ≡ e.left)
 
 -- The part that a refusal names, or what was there before.
-abbrev pub part_number : ℕ → Found → ℕ
-part_number old (At k) = k
-part_number old Nowhere = old
+abbrev pub part_number : ℕ → Option ℕ → ℕ
+part_number old (Some k) = k
+part_number old None = old
 
 -- Of what a report answers: L, and L + 4N and the stack use, or what was there before.
 abbrev pub length_in : Outcome Sizes → Outcome ℕ

@@ -5,7 +5,7 @@
 
 ghost use Rattle.std.specs.Prelude.{◌≡◌};
 ghost use Rattle.model.specs.Rules.Compile.{compile_of};
-ghost use Rattle.model.specs.Rules.Outcome.{yielded_of, refused};
+ghost use Rattle.model.specs.Rules.Outcome.{yielded_of};
 ghost use Rattle.model.specs.Rules.Dependents.{dependents_of};
 ghost use Rattle.model.specs.Rules.Join.{joined_of, part_in, join_of, part_named};
 ghost use Rattle.model.specs.Rules.Machine.{Does, ran_of, cycled_of, reset_of, cycle_of};
@@ -14,15 +14,14 @@ ghost use Rattle.model.specs.Rules.Report.{reported_of, report_of};
 ghost use Rattle.model.specs.Rules.Rewrite.{convert_of};
 ghost use Rattle.model.specs.Rules.Tail.{tail_in, length_of_tail, stretch_in};
 ghost use Rattle.model.specs.Rules.TextForm.{assemble_of, listing_of};
-ghost use Rattle.board.specs.Board.{load_of, mark_place_of, turn_of, turned_of};
+ghost use Rattle.board.specs.Board.{load_of, mark_place_of, turn_of};
 ghost use Rattle.board.specs.Record.{board_of, new_words, load_record, mark_record, turn_record, turn_done, outcome_in};
 ghost use Rattle.larderlate.specs.Code.{code_number, Tells, part_number, length_in, written_in, stack_in, start_in};
 
-use board::Turned;
-use model::{Cycled, Fault, Joined, Ran, Reported, Yielded};
+use model::{Fault, JoinFault, Sizes};
 
 // Writes the image of an accepted program and schedule and its tail to the start of `image`, and yields how many bytes these are.
-pub fn compile(program: &[u8], schedule: &[u8], image: &mut [u8]) -> Yielded
+pub fn compile(program: &[u8], schedule: &[u8], image: &mut [u8]) -> Result<usize, Fault>
     ensures { Does
         (compile_of program.now schedule.now image.old)
         (yielded_of result) image.new }
@@ -33,7 +32,12 @@ pub fn compile(program: &[u8], schedule: &[u8], image: &mut [u8]) -> Yielded
 // Joins parts, whose texts lie in one lent buffer, and links between them: writes their image and its tail to the start of
 // `image`, and yields how many bytes these are. A part is four numbers: start and length of its program and of its schedule;
 // one to three numbers after the last whole part are not looked at. A link is four bytes: part, IN, part, signal.
-pub fn join(texts: &[u8], numbers: &[usize], links: &[u8], image: &mut [u8]) -> Joined
+pub fn join(
+    texts: &[u8],
+    numbers: &[usize],
+    links: &[u8],
+    image: &mut [u8],
+) -> Result<usize, JoinFault>
     ensures answer { joined_of result ≡
         (join_of texts.now numbers.now links.now image.old).answer }
     ensures left { image.new ≡
@@ -45,7 +49,7 @@ pub fn join(texts: &[u8], numbers: &[usize], links: &[u8], image: &mut [u8]) -> 
 
 // Tells what an accepted program and schedule need: the length of their image, that with its tail, the highest stack use of any
 // signal, and in `counts` the commands of each cycle.
-pub fn report(program: &[u8], schedule: &[u8], counts: &mut [u32; 240]) -> Reported
+pub fn report(program: &[u8], schedule: &[u8], counts: &mut [u32; 240]) -> Result<Sizes, Fault>
     ensures { Does
         (report_of program.now schedule.now counts.old)
         (reported_of result) counts.new }
@@ -54,14 +58,14 @@ pub fn report(program: &[u8], schedule: &[u8], counts: &mut [u32; 240]) -> Repor
 }
 
 // Puts position 0 and every signal's initial word into the state.
-pub fn reset(image: &[u8], state: &mut [i32]) -> Ran
+pub fn reset(image: &[u8], state: &mut [i32]) -> Result<(), Fault>
     ensures { Does (reset_of image.now state.old) (ran_of result) state.new }
 {
     machine::reset(image, &mut state[..])
 }
 
 // Runs one cycle: the list of the state's position, and then the position moves on. Yields how many commands it ran.
-pub fn cycle(image: &[u8], state: &mut [i32], samples: &[i32]) -> Cycled
+pub fn cycle(image: &[u8], state: &mut [i32], samples: &[i32]) -> Result<u32, Fault>
     ensures { Does
         (cycle_of image.now state.old samples.now)
         (cycled_of result) state.new }
@@ -70,7 +74,7 @@ pub fn cycle(image: &[u8], state: &mut [i32], samples: &[i32]) -> Cycled
 }
 
 // How long the tail of an image is, 0 for an image without one; or the refusal.
-pub fn tail_length(image: &[u8]) -> Yielded
+pub fn tail_length(image: &[u8]) -> Result<usize, Fault>
     ensures { yielded_of result ≡ length_of_tail (tail_in image.now) }
 {
     image_valid::tail_length(image)
@@ -84,7 +88,7 @@ pub fn tail<'a>(image: &'a [u8]) -> &'a [u8]
 }
 
 // Rewrites a program text of the earlier rule, with a sampling factor of 1, to the start of `result`, and yields its new length.
-pub fn convert(program: &[u8], res: &mut [u8]) -> Yielded
+pub fn convert(program: &[u8], res: &mut [u8]) -> Result<usize, Fault>
     ensures { Does (convert_of program.now res.old) (yielded_of result) res.new }
 {
     text_convert::convert(program, &mut res[..])
@@ -93,7 +97,7 @@ pub fn convert(program: &[u8], res: &mut [u8]) -> Yielded
 // Lists where one job may go: each signal and phase, two bytes, such that the pair with only that phase changed and the same PUT
 // order is accepted and settles every open read as before; as many whole entries as the list has space for. Yields how many there
 // are in all.
-pub fn moves(program: &[u8], schedule: &[u8], list: &mut [u8]) -> Yielded
+pub fn moves(program: &[u8], schedule: &[u8], list: &mut [u8]) -> Result<usize, Fault>
     ensures { Does
         (moves_of program.now schedule.now list.old)
         (yielded_of result) list.new }
@@ -103,7 +107,12 @@ pub fn moves(program: &[u8], schedule: &[u8], list: &mut [u8]) -> Yielded
 
 // Marks by 1 each signal of an accepted program and schedule that reads an input, by itself or through other signals, and by 0
 // every other of 64.
-pub fn dependents(program: &[u8], schedule: &[u8], input: usize, marks: &mut [u8; 64]) -> Ran
+pub fn dependents(
+    program: &[u8],
+    schedule: &[u8],
+    input: usize,
+    marks: &mut [u8; 64],
+) -> Result<(), Fault>
     ensures { Does
         (dependents_of program.now schedule.now input marks.old)
         (ran_of result) marks.new }
@@ -112,110 +121,26 @@ pub fn dependents(program: &[u8], schedule: &[u8], input: usize, marks: &mut [u8
 }
 
 // Assembles a text in words to the start of `bytes`, and yields how many bytes it is.
-pub fn assemble(text: &[u8], bytes: &mut [u8]) -> Yielded
+pub fn assemble(text: &[u8], bytes: &mut [u8]) -> Result<usize, Fault>
     ensures { Does (assemble_of text.now bytes.old) (yielded_of result) bytes.new }
 {
     text_assemble::assemble(text, &mut bytes[..])
 }
 
 // Lists a program, a schedule or a script in words to the start of `text`, and yields how long the listing is.
-pub fn list(bytes: &[u8], text: &mut [u8]) -> Yielded
+pub fn list(bytes: &[u8], text: &mut [u8]) -> Result<usize, Fault>
     ensures { Does (listing_of bytes.now text.old) (yielded_of result) text.new }
 {
     text_list::list(bytes, &mut text[..])
 }
 
-// A refusal as one number.
-fn code_of_fault(fault: Fault) -> u64
-    ensures { result ≡ code_number (refused fault) }
+// What a call answers as one number.
+fn code(answer: Result<usize, Fault>) -> u64
+    ensures { result ≡ code_number (yielded_of answer) }
 {
-    (fault.number as u64) * 4294967296 + (fault.place as u64) % 4294967296
-}
-
-fn code_of_yielded(yielded: Yielded) -> u64
-    ensures { result ≡ code_number (yielded_of yielded) }
-{
-    match yielded {
-        Yielded::Number(n) => n as u64,
-        Yielded::Refused(fault) => code_of_fault(fault),
-    }
-}
-
-fn code_of_joined(joined: Joined) -> u64
-    ensures { result ≡ code_number (joined_of joined) }
-{
-    match joined {
-        Joined::Length(n) => n as u64,
-        Joined::Refused(fault) => code_of_fault(fault),
-        Joined::RefusedIn(_, fault) => code_of_fault(fault),
-    }
-}
-
-// The part that a refusal names, or what is there where it names none.
-fn part_of_joined(joined: Joined, old: usize) -> usize
-    ensures { result ≡ part_number old (part_in joined) }
-{
-    match joined {
-        Joined::Length(_) => old,
-        Joined::Refused(_) => old,
-        Joined::RefusedIn(part, _) => part,
-    }
-}
-
-fn code_of_ran(ran: Ran) -> u64
-    ensures { result ≡ code_number (ran_of ran) }
-{
-    match ran {
-        Ran::Done => 0,
-        Ran::Refused(fault) => code_of_fault(fault),
-    }
-}
-
-fn code_of_cycled(cycled: Cycled) -> u64
-    ensures { result ≡ code_number (cycled_of cycled) }
-{
-    match cycled {
-        Cycled::Commands(n) => n as u64,
-        Cycled::Refused(fault) => code_of_fault(fault),
-    }
-}
-
-fn code_of_turned(turned: Turned) -> u64
-    ensures { result ≡ code_number (turn_done (turned_of turned)) }
-{
-    match turned {
-        Turned::Idle => 0,
-        Turned::Took(_, _) => 0,
-        Turned::Refused(fault) => code_of_fault(fault),
-    }
-}
-
-fn code_of_reported(reported: Reported) -> u64
-    ensures { result ≡ code_number (length_in (reported_of reported)) }
-{
-    match reported {
-        Reported::Sizes(sizes) => sizes.length as u64,
-        Reported::Refused(fault) => code_of_fault(fault),
-    }
-}
-
-// The stack use of a report, or what is there where it is refused.
-fn stack_of_reported(reported: Reported, old: usize) -> usize
-    ensures { result ≡ stack_in old (reported_of reported) }
-{
-    match reported {
-        Reported::Sizes(sizes) => sizes.stack,
-        Reported::Refused(_) => old,
-    }
-}
-
-// The length with the tail, or what is there where it is refused.
-fn written_of_reported(reported: Reported, old: usize) -> usize
-    ensures { result ≡ written_in old (reported_of reported) }
-{
-    match reported {
-        Reported::Sizes(sizes) => sizes.written,
-        Reported::Refused(_) => old,
+    match answer {
+        Ok(n) => n as u64,
+        Err(fault) => u64::from(fault.number) * 4294967296 + (fault.place as u64) % 4294967296,
     }
 }
 
@@ -226,7 +151,7 @@ pub fn larderlate_compile(program: &[u8], schedule: &[u8], image: &mut [u8]) -> 
         result image.new }
 {
     let compiled = compile(program, schedule, &mut image[..]);
-    code_of_yielded(compiled)
+    code(compiled)
 }
 
 // The part that a refusal names stands behind a pointer. The header's larderlate_join lends it whole parts.
@@ -245,8 +170,10 @@ pub fn larderlate_join_numbers(
         part_number part.old (part_named texts.now numbers.now) }
 {
     let joined = join(texts, numbers, links, &mut image[..]);
-    *part = part_of_joined(joined, *part);
-    code_of_joined(joined)
+    if let Err(JoinFault { part: Some(k), .. }) = joined {
+        *part = k;
+    }
+    code(joined.map_err(|e| e.fault))
 }
 
 pub fn larderlate_report(
@@ -266,23 +193,25 @@ pub fn larderlate_report(
         stack_in stack.old (report_of program.now schedule.now counts.old).answer }
 {
     let reported = report(program, schedule, counts);
-    *written = written_of_reported(reported, *written);
-    *stack = stack_of_reported(reported, *stack);
-    code_of_reported(reported)
+    if let Ok(sizes) = reported {
+        *written = sizes.written;
+        *stack = sizes.stack;
+    }
+    code(reported.map(|sizes| sizes.length))
 }
 
 pub fn larderlate_reset(image: &[u8], state: &mut [i32]) -> u64
     ensures { Tells (reset_of image.now state.old) result state.new }
 {
     let ran = reset(image, &mut state[..]);
-    code_of_ran(ran)
+    code(ran.map(|()| 0))
 }
 
 pub fn larderlate_cycle(image: &[u8], state: &mut [i32], samples: &[i32]) -> u64
     ensures { Tells (cycle_of image.now state.old samples.now) result state.new }
 {
     let cycled = cycle(image, &mut state[..], samples);
-    code_of_cycled(cycled)
+    code(cycled.map(|n| n as usize))
 }
 
 // Where the tail starts, behind a pointer, and how long it is.
@@ -291,25 +220,24 @@ pub fn larderlate_tail(image: &[u8], start: &mut usize) -> u64
     ensures place { start.new ≡ start_in start.old image.now (tail_in image.now) }
 {
     let length = tail_length(image);
-    let Yielded::Number(n) = length else {
-        return code_of_yielded(length);
-    };
-    *start = image.len() - n;
-    n as u64
+    if let Ok(n) = length {
+        *start = image.len() - n;
+    }
+    code(length)
 }
 
 pub fn larderlate_convert(program: &[u8], res: &mut [u8]) -> u64
     ensures { Tells (convert_of program.now res.old) result res.new }
 {
     let converted = convert(program, &mut res[..]);
-    code_of_yielded(converted)
+    code(converted)
 }
 
 pub fn larderlate_moves(program: &[u8], schedule: &[u8], list: &mut [u8]) -> u64
     ensures { Tells (moves_of program.now schedule.now list.old) result list.new }
 {
     let listed = moves(program, schedule, &mut list[..]);
-    code_of_yielded(listed)
+    code(listed)
 }
 
 pub fn larderlate_dependents(
@@ -323,21 +251,21 @@ pub fn larderlate_dependents(
         result marks.new }
 {
     let ran = dependents(program, schedule, input, marks);
-    code_of_ran(ran)
+    code(ran.map(|()| 0))
 }
 
 pub fn larderlate_assemble(text: &[u8], bytes: &mut [u8]) -> u64
     ensures { Tells (assemble_of text.now bytes.old) result bytes.new }
 {
     let assembled = assemble(text, &mut bytes[..]);
-    code_of_yielded(assembled)
+    code(assembled)
 }
 
 pub fn larderlate_list(bytes: &[u8], text: &mut [u8]) -> u64
     ensures { Tells (listing_of bytes.now text.old) result text.new }
 {
     let listed = list(bytes, &mut text[..]);
-    code_of_yielded(listed)
+    code(listed)
 }
 
 // The board's calls. The record is an array of 17 numbers that the caller keeps (crate `board`); a refused call and an idle
@@ -365,7 +293,7 @@ pub fn larderlate_board_load(
         place start size).left }
 {
     let ran = board::load(words, images, &mut state[..], place, start, size);
-    code_of_ran(ran)
+    code(ran.map(|()| 0))
 }
 
 pub fn larderlate_board_mark(words: &mut [usize; 17], place: usize) -> u64
@@ -374,7 +302,7 @@ pub fn larderlate_board_mark(words: &mut [usize; 17], place: usize) -> u64
         mark_record words.old place (mark_place_of (board_of words.old) place).answer }
 {
     let ran = board::mark(words, place);
-    code_of_ran(ran)
+    code(ran.map(|()| 0))
 }
 
 pub fn larderlate_board_turn(
@@ -397,5 +325,5 @@ pub fn larderlate_board_turn(
 {
     let turned = board::turn(words, images, &mut state[..], samples);
     board::tell_turn(turned, outcome);
-    code_of_turned(turned)
+    code(turned.map(|_| 0))
 }

@@ -1,4 +1,5 @@
 -- The least bound that the runs of a window keep, run after run. Assumes nothing.
+use Rattle.std.specs.Prelude.{Option, Some, None}
 use Prim.Native.Nat.{ℕ, suc, ◌+◌, ◌≤◌, ◌<◌}
 use mathlib.Core.Bool.{Bool, true, false, cond, not, ◌&&◌, ◌||◌, and-eq-true_iff}
 use mathlib.Core.Path.{◌≡◌, refl, sym, ap, ◌∙◌}
@@ -8,8 +9,6 @@ use native.Mathlib.Omega.{arith}
 use borrow.Author.Tests.{leb-true, ltb-true, ltb-false, le-leb, le-ltb, lt-leb}
 use lib.Dec.{leb, ltb}
 use Rattle.model.specs.Rules.Search.{first_from, first_below, is_found, all_below}
-use Rattle.model.specs.declared.Found.{Found}
-use Rattle.model.specs.declared.Found.TheVariants.{At, Nowhere}
 use Rattle.model.specs.declared.Mode.{Mode}
 use Rattle.model.specs.declared.Mode.TheVariants.{Exists, Backward}
 use Rattle.model.proofs.Basics.Tests.{both, together}
@@ -49,8 +48,8 @@ found-more n test =
         or_right (is_found (first_below n test)) (test n) (sym (ap test q) ∙ h.2)
 
 -- A bound is kept with one run more.
-later-kept : (b m : ℕ) (f : Found) → (leb m b && not (late_by b f)) ≡ leb (enough_for Backward m f) b
-later-kept b m (At l) = go (ltb m l) refl
+later-kept : (b m : ℕ) (f : Option ℕ) → (leb m b && not (late_by b f)) ≡ leb (enough_for Backward m f) b
+later-kept b m (Some l) = go (ltb m l) refl
   where
     go : (t : Bool) → ltb m l ≡ t → (leb m b && not (ltb b l)) ≡ leb (cond t l m) b
     go true e =
@@ -68,14 +67,14 @@ later-kept b m (At l) = go (ltb m l) refl
     go false e =
         together _ _ (λ h. (both (leb m b) (not (ltb b l)) h).0)
         (λ h. (and-eq-true_iff _ _).1 (h, ap not (le-ltb b l (omega (arith, leb-true m b h, ltb-false m l e)))))
-later-kept b m Nowhere = go (leb m b)
+later-kept b m None = go (leb m b)
   where
     go : (t : Bool) → (t && true) ≡ t
     go true = refl
     go false = refl
 
-sooner-kept : (b m : ℕ) (f : Found) → (leb m b || in_time_by b f) ≡ leb (enough_for Exists m f) b
-sooner-kept b m (At l) = go (ltb l m) refl
+sooner-kept : (b m : ℕ) (f : Option ℕ) → (leb m b || in_time_by b f) ≡ leb (enough_for Exists m f) b
+sooner-kept b m (Some l) = go (ltb l m) refl
   where
     go : (t : Bool) → ltb l m ≡ t → (leb m b || leb l b) ≡ leb (cond t l m) b
     go true e =
@@ -86,7 +85,7 @@ sooner-kept b m (At l) = go (ltb l m) refl
         together _ _
         (λ h. or-either (leb m b) (leb l b) h (λ a. a) (λ a. le-leb m b (omega (arith, leb-true l b a, ltb-false l m e))))
         (λ h. or_left (leb m b) (leb l b) h)
-sooner-kept b m Nowhere = go (leb m b)
+sooner-kept b m None = go (leb m b)
   where
     go : (t : Bool) → (t || false) ≡ t
     go true = refl

@@ -1,4 +1,5 @@
 -- The hops of a chain: going back over them is going back over its reads. Assumes nothing.
+use Rattle.std.specs.Prelude.{Option, Some, None}
 use Prim.Native.Nat.{ℕ, zero, suc, ◌+◌, ◌*◌, ◌-◌, ◌≤◌, ◌<◌}
 use mathlib.Core.Bool.{Bool, true, false, not}
 use mathlib.Core.List.{List, [], ◌∷◌}
@@ -12,8 +13,6 @@ use Rattle.model.specs.Rules.Program.{Program, Read, count, signal_at}
 use Rattle.model.specs.Rules.Reads.{rate_of, run_cycle, before}
 use Rattle.model.specs.Rules.Schedule.{Schedule, phase_of}
 use Rattle.model.specs.Rules.Search.{first_below, is_found, all_below}
-use Rattle.model.specs.declared.Found.{Found}
-use Rattle.model.specs.declared.Found.TheVariants.{At, Nowhere}
 use Rattle.model.specs.declared.Mode.{Mode}
 use Rattle.model.specs.declared.Mode.TheVariants.{Exists, Backward}
 use Rattle.model.proofs.Pairs.Rate.{stored-high, bit}
@@ -36,17 +35,17 @@ module _ (p : Program) (s : Schedule) where
       go zero f = refl
       go (suc m) f = f m
 
-  latency-is : (r a k : ℕ) (f : Found) → latency_from p s r k a f ≡ latency_by (rate_of p s r) (rate_of p s a) k f
-  latency-is r a k (At m) = refl
-  latency-is r a k Nowhere = refl
+  latency-is : (r a k : ℕ) (f : Option ℕ) → latency_from p s r k a f ≡ latency_by (rate_of p s r) (rate_of p s a) k f
+  latency-is r a k (Some m) = refl
+  latency-is r a k None = refl
 
-  late_is : (bound : ℕ) (f : Found) → is_late p s bound f ≡ late_by bound f
-  late_is bound (At l) = refl
-  late_is bound Nowhere = refl
+  late_is : (bound : ℕ) (f : Option ℕ) → is_late p s bound f ≡ late_by bound f
+  late_is bound (Some l) = refl
+  late_is bound None = refl
 
-  in-time-is : (bound : ℕ) (f : Found) → is_in_time p s bound f ≡ in_time_by bound f
-  in-time-is bound (At l) = refl
-  in-time-is bound Nowhere = refl
+  in-time-is : (bound : ℕ) (f : Option ℕ) → is_in_time p s bound f ≡ in_time_by bound f
+  in-time-is bound (Some l) = refl
+  in-time-is bound None = refl
 
   run_is : (route : Route) (r k : ℕ) (ρs : List Read) → RouteOver p s route r ρs →
       run_latency p s r ρs k ≡ run_latency_by route k

@@ -1,4 +1,5 @@
 -- Laws of going back over hops. Assumes nothing.
+use Rattle.std.specs.Prelude.{Option, Some}
 use Prim.Native.Nat.{ℕ, zero, suc, ◌+◌, ◌*◌, ◌-◌, ◌≤◌, ◌<◌}
 use mathlib.Core.List.{List}
 use mathlib.Core.Path.{◌≡◌, refl, ap, subst, ◌∙◌}
@@ -6,8 +7,6 @@ use native.Mathlib.Nat.{mul-le-mul_left, mul-le-mul_right, le_trans}
 use native.Mathlib.Omega.{arith}
 use lib.ListN.{get_or}
 use Rattle.model.specs.Rules.Latency.{onward}
-use Rattle.model.specs.declared.Found.{Found}
-use Rattle.model.specs.declared.Found.TheVariants.{At}
 use Rattle.latency_rule.specs.declared.Hop.{Hop}
 use Rattle.latency_rule.specs.declared.Route.{Route}
 use Rattle.latency_rule.specs.Back.{no_hop, used_by, back_by, Small, OnwardSmall, Passable}
@@ -39,7 +38,7 @@ module _ (hops : List Hop) where
       go : (n : ℕ) → Small hops (suc n) k → OnwardSmall (λ m. Small hops n m) (used_by (get_or hops n no_hop) k)
       go n t = t.1
 
-  pub back_end : (n k : ℕ) → n ≡ 0 → back_by hops n k ≡ At k
+  pub back_end : (n k : ℕ) → n ≡ 0 → back_by hops n k ≡ Some k
   unfolding back_by
   back_end n k h = rw h
 
@@ -49,7 +48,7 @@ module _ (hops : List Hop) where
   small-start (suc n) k s = s.0
 
 -- An entry that is not 0.
-pub onward-at : (go : ℕ → Found) (e : ℕ) → (e ≡ 0 → ⊥) → onward go e ≡ go (e - 1)
+pub onward-at : (go : ℕ → Option ℕ) (e : ℕ) → (e ≡ 0 → ⊥) → onward go e ≡ go (e - 1)
 onward-at go zero h = absurd (h refl)
 onward-at go (suc m) h = ap go (omega arith)
 

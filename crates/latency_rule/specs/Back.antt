@@ -1,10 +1,8 @@
 -- Going back over the reads of a chain, by a table of hops.
-use Rattle.std.specs.Prelude.{ℕ, zero, suc, ◌+◌, ◌*◌, ◌/◌, ◌≤◌, ◌<◌, Bool, false, cond, not, List, ◌≡◌, leb, ltb, get_or}
+use Rattle.std.specs.Prelude.{Option, Some, None, ℕ, zero, suc, ◌+◌, ◌*◌, ◌/◌, ◌≤◌, ◌<◌, Bool, false, cond, not, List, ◌≡◌, leb, ltb, get_or}
 use Rattle.model.specs.Rules.Latency.{onward, latency_of}
 use Rattle.model.specs.Rules.Reads.{Rate, uses}
 use Rattle.model.specs.Rules.Search.{first_below, is_found, all_below}
-use Rattle.model.specs.declared.Found.{Found}
-use Rattle.model.specs.declared.Found.TheVariants.{At, Nowhere}
 use Rattle.model.specs.declared.Kind.TheVariants.{Now}
 use Rattle.model.specs.declared.Mode.{Mode}
 use Rattle.model.specs.declared.Mode.TheVariants.{Exists, Backward}
@@ -22,8 +20,8 @@ unfoldable pub used_by : Hop → ℕ → ℕ
 used_by h k = uses h.kind h.factor h.index k
 
 -- The element at which one ends that goes back from element k over the first n hops, the last of them first.
-unfoldable pub back_by : List Hop → ℕ → ℕ → Found
-back_by hops zero k = At k
+unfoldable pub back_by : List Hop → ℕ → ℕ → Option ℕ
+back_by hops zero k = Some k
 back_by hops (suc n) k = onward (λ m. back_by hops n m) (used_by (get_or hops n no_hop) k)
 
 -- Every index is below its factor.
@@ -39,9 +37,9 @@ unfoldable pub Small : List Hop → ℕ → ℕ → Type 0
 Small hops zero k = k ≤ 1000000
 Small hops (suc n) k = (k ≤ 1000000) × OnwardSmall (λ m. Small hops n m) (used_by (get_or hops n no_hop) k)
 
-abbrev pub SmallFound : Found → Type 0
-SmallFound (At m) = m ≤ 1000000
-SmallFound Nowhere = Unit {0}
+abbrev pub SmallFound : Option ℕ → Type 0
+SmallFound (Some m) = m ≤ 1000000
+SmallFound None = Unit {0}
 
 -- One can go back over the route from every run of the window from run `from` on.
 pub record Passable (route : Route) (from window : ℕ) : Type 0 where
@@ -51,20 +49,20 @@ pub record Passable (route : Route) (from window : ℕ) : Type 0 where
   pub within : from + window ≤ 1000000
 
 -- The latency of run k of the last link, if the run counts.
-abbrev pub latency_by : Rate → Rate → ℕ → Found → Found
-latency_by last source k (At m) = At (latency_of last k source m)
-latency_by last source k Nowhere = Nowhere
+abbrev pub latency_by : Rate → Rate → ℕ → Option ℕ → Option ℕ
+latency_by last source k (Some m) = Some (latency_of last k source m)
+latency_by last source k None = None
 
-unfoldable pub run_latency_by : Route → ℕ → Found
+unfoldable pub run_latency_by : Route → ℕ → Option ℕ
 run_latency_by route k = latency_by (rate_in route.last) (rate_in route.source) k (back_by route.hops route.count k)
 
-abbrev pub late_by : ℕ → Found → Bool
-late_by bound (At l) = ltb bound l
-late_by bound Nowhere = false
+abbrev pub late_by : ℕ → Option ℕ → Bool
+late_by bound (Some l) = ltb bound l
+late_by bound None = false
 
-abbrev pub in_time_by : ℕ → Found → Bool
-in_time_by bound (At l) = leb l bound
-in_time_by bound Nowhere = false
+abbrev pub in_time_by : ℕ → Option ℕ → Bool
+in_time_by bound (Some l) = leb l bound
+in_time_by bound None = false
 
 -- Whether the runs of the window from run `from` on keep the bound.
 unfoldable pub timely_by : Mode → ℕ → Route → ℕ → ℕ → Bool
@@ -105,9 +103,9 @@ abbrev pub enough_of : Mode → ℕ → ℕ → ℕ
 enough_of Backward m l = cond (ltb m l) l m
 enough_of Exists m l = cond (ltb l m) l m
 
-abbrev pub enough_for : Mode → ℕ → Found → ℕ
-enough_for mode m (At l) = enough_of mode m l
-enough_for mode m Nowhere = m
+abbrev pub enough_for : Mode → ℕ → Option ℕ → ℕ
+enough_for mode m (Some l) = enough_of mode m l
+enough_for mode m None = m
 
 -- The runs of the window keep exactly the bounds from m on.
 abbrev pub LeastBound : Mode → Route → ℕ → ℕ → ℕ → Type 0

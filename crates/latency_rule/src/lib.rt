@@ -24,7 +24,7 @@ ghost use Rattle.latency_rule.specs.Back.{
   LeastBound,
 };
 
-use model::{Found, Kind, Mode};
+use model::{Kind, Mode};
 use read_rule::Timing;
 
 // One read on the way back: its kind, its factor and its settled index.
@@ -69,23 +69,21 @@ fn entry_of(hop: Hop, k: usize) -> usize
 }
 
 // Goes back from element k over the hops, the last of them first.
-fn go_back(route: Route, k: usize) -> Found
+fn go_back(route: Route, k: usize) -> Option<usize>
     requires { Passable route k 1 }
     ensures { (result ≡ back_by route.hops route.count k) × SmallFound result }
 {
     let hops = route.hops;
-    let mut left = route.count;
     let mut element = k;
-    while 0 < left {
-        let hop = hops[left - 1];
+    for i in (0..route.count).rev() {
+        let hop = hops[i];
         let entry = entry_of(hop, element);
         if entry == 0 {
-            return Found::Nowhere;
+            return None;
         }
         element = entry - 1;
-        left = left - 1;
     }
-    Found::At(element)
+    Some(element)
 }
 
 // The cycle of a run.
@@ -104,36 +102,36 @@ fn cycles_between(from: usize, to: usize) -> usize
 }
 
 // The latency of run k of the last link, if the run counts.
-fn run_latency(route: Route, k: usize) -> Found
+fn run_latency(route: Route, k: usize) -> Option<usize>
     requires { Passable route k 1 }
     ensures { result ≡ run_latency_by route k }
 {
     let found = go_back(route, k);
     match found {
-        Found::At(m) => {
+        Some(m) => {
             let cycles = cycles_between(cycle_of(route.source, m), cycle_of(route.last, k));
             let latency = cycles + 1;
-            Found::At(latency)
+            Some(latency)
         }
-        Found::Nowhere => Found::Nowhere,
+        None => None,
     }
 }
 
-fn is_late(bound: usize, latency: Found) -> bool
+fn is_late(bound: usize, latency: Option<usize>) -> bool
     ensures { result ≡ late_by bound latency }
 {
     match latency {
-        Found::At(l) => bound < l,
-        Found::Nowhere => false,
+        Some(l) => bound < l,
+        None => false,
     }
 }
 
-fn is_in_time(bound: usize, latency: Found) -> bool
+fn is_in_time(bound: usize, latency: Option<usize>) -> bool
     ensures { result ≡ in_time_by bound latency }
 {
     match latency {
-        Found::At(l) => l <= bound,
-        Found::Nowhere => false,
+        Some(l) => l <= bound,
+        None => false,
     }
 }
 
@@ -142,13 +140,11 @@ fn all_in_time(bound: usize, route: Route, from: usize, window: usize) -> bool
     requires { Passable route from window }
     ensures { result ≡ all_below window (λ i. not (late_by bound (run_latency_by route (from + i)))) }
 {
-    let mut i: usize = 0;
-    while i < window {
+    for i in 0..window {
         let latency = run_latency(route, from + i);
         if is_late(bound, latency) {
             return false;
         }
-        i = i + 1;
     }
     true
 }
@@ -158,13 +154,11 @@ fn one_in_time(bound: usize, route: Route, from: usize, window: usize) -> bool
     requires { Passable route from window }
     ensures { result ≡ is_found (first_below window (λ i. in_time_by bound (run_latency_by route (from + i)))) }
 {
-    let mut i: usize = 0;
-    while i < window {
+    for i in 0..window {
         let latency = run_latency(route, from + i);
         if is_in_time(bound, latency) {
             return true;
         }
-        i = i + 1;
     }
     false
 }
@@ -174,14 +168,12 @@ fn all_plain(route: Route) -> bool
     ensures { result ≡ all_plain route.hops route.count }
 {
     let hops = route.hops;
-    let mut i: usize = 0;
-    while i < route.count {
+    for i in 0..route.count {
         let hop = hops[i];
         let kind = hop.kind;
         if !read_rule::is_plain(kind) {
             return false;
         }
-        i = i + 1;
     }
     true
 }
@@ -226,10 +218,10 @@ pub fn is_timely(mode: Mode, bound: usize, route: Route, h: usize) -> bool
 }
 
 // The bound that is enough for a run beside the least so far: for all runs, or for one of them.
-fn enough_for(mode: Mode, least: usize, latency: Found) -> usize
+fn enough_for(mode: Mode, least: usize, latency: Option<usize>) -> usize
     ensures { result ≡ enough_for mode least latency }
 {
-    let Found::At(l) = latency else {
+    let Some(l) = latency else {
         return least;
     };
     match mode {
@@ -255,11 +247,9 @@ pub fn least_bound(mode: Mode, route: Route, h: usize) -> usize
 {
     let runs = deciding_runs(route, h);
     let mut bound = enough_for_none(mode);
-    let mut i: usize = 0;
-    while i < runs.count {
+    for i in 0..runs.count {
         let latency = run_latency(route, runs.from + i);
         bound = enough_for(mode, bound, latency);
-        i = i + 1;
     }
     bound
 }

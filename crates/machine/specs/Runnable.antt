@@ -1,7 +1,8 @@
 -- What is lent to a cycle that has nothing left to refuse (20 to 23).
 use Rattle.std.specs.Prelude.{ℕ, ◌≤◌, ◌<◌, true, List, ◌≡◌, ℤ, pos, length, get_or}
-use Rattle.model.specs.Rules.Machine.{stretch, hyper_of, count_of, table_offset, code_offset, well_formed, is_position, cycle_of}
-use Rattle.model.specs.Rules.Outcome.{refuse}
+use Rattle.model.specs.Rules.Machine.{stretch, hyper_of, count_of, table_offset, code_offset, well_formed, is_position, reset_of, cycle_of}
+use Rattle.model.specs.Rules.Outcome.{refused}
+use Rattle.model.specs.declared.Fault.{Fault}
 use Rattle.image_valid.specs.Lends.{Lends}
 
 -- The table of an image, from its count byte to the code.
@@ -14,8 +15,16 @@ pub record Runnable (image : List ℕ) (state samples : List ℤ) : Type 0 where
   pub position : is_position (hyper_of image) (get_or state 0 (pos 0)) ≡ true
   pub enough : count_of image ≤ length samples
 
--- The judgement of a cycle: the number of its refusal, which leaves the state; or 0, where the image in what is lent can be run.
-pub data JudgesCycle (lent : List ℕ) (state samples : List ℤ) : ℕ → Type 0 where
-  refuses : {n : ℕ} → 0 < n → cycle_of lent state samples ≡ record { answer = refuse n 0; left = state } →
-      JudgesCycle lent state samples n
-  runs : {image : List ℕ} → Lends lent image → Runnable image state samples → JudgesCycle lent state samples 0
+-- The image in what is lent, well formed, and a state with room for it.
+pub record Ready (lent : List ℕ) (state : List ℤ) (image : List ℕ) : Type 0 where
+  pub lends : Lends lent image
+  pub formed : well_formed image ≡ true
+  pub long : count_of image < length state
+
+-- The refusal of a cycle, and of a reset and each cycle on this state. The state stays as it was.
+abbrev pub RefusesCycle : List ℕ → List ℤ → List ℤ → Fault → Type 0
+RefusesCycle lent state samples f = cycle_of lent state samples ≡ record { answer = refused f; left = state }
+
+pub record Unready (lent : List ℕ) (state : List ℤ) (f : Fault) : Type 0 where
+  pub resets : reset_of lent state ≡ record { answer = refused f; left = state }
+  pub cycles : (samples : List ℤ) → RefusesCycle lent state samples f

@@ -1,7 +1,7 @@
 // Reset and cycle, on any image, with its tail or without, state and samples. A refused call changes nothing.
 #![tactic(auto)]
 
-ghost use Rattle.std.specs.Prelude.{◌≡◌, true, ℕ, ◌<◌, ◌≤◌, pos, length, get_or};
+ghost use Rattle.std.specs.Prelude.{◌≡◌, true, ℕ, ◌<◌, ◌≤◌, pos, length, get_or, IfOk, IfErr};
 ghost use Rattle.model.specs.Rules.Machine.{
   Does,
   hyper_of,
@@ -15,24 +15,11 @@ ghost use Rattle.model.specs.Rules.Machine.{
   reset_words,
 };
 ghost use Rattle.model.specs.Rules.Machine.{cycle_words, cycle_count, ran_of, cycled_of, reset_of, cycle_of};
-ghost use Rattle.machine.specs.Runnable.{table_in, Runnable, JudgesCycle};
-ghost use Rattle.model.specs.Rules.Outcome.{refuse};
+ghost use Rattle.machine.specs.Runnable.{table_in, Ready, Unready, Runnable, RefusesCycle};
+ghost use Rattle.image_valid.specs.Lends.{Lends};
 ghost use Rattle.model.specs.Rules.Word.{byte_at};
 
-use model::{Cycled, Fault, Ran, refusals};
-
-// The refusals of a reset and of a cycle, and of a board's calls: all have place 0.
-pub fn refused(number: u8) -> Ran
-    ensures { ran_of result ≡ refuse number 0 }
-{
-    Ran::Refused(Fault { number, place: 0 })
-}
-
-pub fn stopped(number: u8) -> Cycled
-    ensures { cycled_of result ≡ refuse number 0 }
-{
-    Cycled::Refused(Fault { number, place: 0 })
-}
+use model::{Fault, Refusal};
 
 // The run list of cycle c: a stretch of the lent image.
 pub fn run_list(image: &[u8], c: usize) -> &[u8]
@@ -77,17 +64,13 @@ fn run_signals(
 {
     let count = basics::from_byte(n);
     let mut total: u32 = 0;
-    let mut i: usize = 0;
-    while i < list.len() {
-        let x = list[i];
-        let own = basics::from_byte(x);
+    for x in list {
+        let own = basics::from_byte(*x);
         let from = image_valid::code_offset(image, count, own);
         let to = image_valid::code_offset(image, count, own + 1);
-        let run = run_code::run_code(&image[from..to], table, n, x, &state[..], samples);
-        let w = run.word;
-        state[own + 1] = w;
-        total = total + run.count;
-        i = i + 1;
+        let run = run_code::run_code(&image[from..to], table, n, *x, &state[..], samples);
+        state[own + 1] = run.word;
+        total += run.count;
     }
     total
 }
@@ -106,28 +89,33 @@ fn initial_words(image: &[u8], n: usize, state: &mut [i32])
     ensures { state.new ≡ reset_words image.now state.old }
 {
     state[0] = 0;
-    let mut x: usize = 0;
-    while x < n {
-        let w = word::word_at(image, image_layout::record_at(x));
-        x = x + 1;
-        state[x] = w;
+    for x in 0..n {
+        state[x + 1] = word::word_at(image, image_layout::record_at(x));
     }
 }
 
-// Puts a state into its first cycle.
-pub fn reset(lent: &[u8], state: &mut [i32]) -> Ran
-    ensures { Does (reset_of lent.now state.old) (ran_of result) state.new }
+// The image in what is lent, where it is well formed and the state has room for it; or the refusal of a reset and of a cycle.
+fn image_for<'a>(lent: &'a [u8], state: &[i32]) -> Result<&'a [u8], Fault>
+    ensures ok { IfOk result (λ image. Ready lent.now state.now image.now) }
+    ensures err { IfErr result (Unready lent.now state.now) }
 {
     let image = image_valid::image_in(lent);
     if !image_valid::well_formed(image) {
-        return refused(refusals::IMAGE_NOT_WELL_FORMED);
+        return basics::refuse(Refusal::ImageNotWellFormed, 0);
     }
-    let n = basics::from_byte(image[1]);
-    if state.len() <= n {
-        return refused(refusals::STATE_SHORT);
+    if state.len() <= basics::from_byte(image[1]) {
+        return basics::refuse(Refusal::StateShort, 0);
     }
-    initial_words(image, n, &mut state[..]);
-    Ran::Done
+    Ok(image)
+}
+
+// Puts a state into its first cycle.
+pub fn reset(lent: &[u8], state: &mut [i32]) -> Result<(), Fault>
+    ensures { Does (reset_of lent.now state.old) (ran_of result) state.new }
+{
+    let image = image_for(lent, &state[..])?;
+    initial_words(image, basics::from_byte(image[1]), &mut state[..]);
+    Ok(())
 }
 
 // Runs one cycle on an image that is known to be well formed and a state that is ready: nothing is left to refuse. Yields how
@@ -162,38 +150,28 @@ pub fn is_positioned(image: &[u8], state: &[i32]) -> bool
     c < h
 }
 
-// The number of the refusal of a cycle, 20 to 23 in their order, or 0.
-pub fn judge_cycle(lent: &[u8], state: &[i32], samples: &[i32]) -> u8
-    ensures { JudgesCycle lent.now state.now samples.now result }
+// The image in what is lent, where one cycle can run on it; or the refusal, 20 to 23 in their order.
+pub fn judge_cycle<'a>(lent: &'a [u8], state: &[i32], samples: &[i32]) -> Result<&'a [u8], Fault>
+    ensures ok { IfOk result (λ image. Lends lent.now image.now × Runnable image.now state.now samples.now) }
+    ensures err { IfErr result (RefusesCycle lent.now state.now samples.now) }
 {
-    let image = image_valid::image_in(lent);
-    if !image_valid::well_formed(image) {
-        return refusals::IMAGE_NOT_WELL_FORMED;
-    }
-    let count = basics::from_byte(image[1]);
-    if state.len() <= count {
-        return refusals::STATE_SHORT;
-    }
+    let image = image_for(lent, state)?;
     if !is_positioned(image, state) {
-        return refusals::POSITION;
+        return basics::refuse(Refusal::Position, 0);
     }
-    if samples.len() < count {
-        return refusals::SAMPLES_SHORT;
+    if samples.len() < basics::from_byte(image[1]) {
+        return basics::refuse(Refusal::SamplesShort, 0);
     }
-    0
+    Ok(image)
 }
 
 // Runs one cycle, which is a judgement and a run: the list of the state's position, and then the position moves on. Yields how
 // many commands it ran.
-pub fn cycle(lent: &[u8], state: &mut [i32], samples: &[i32]) -> Cycled
+pub fn cycle(lent: &[u8], state: &mut [i32], samples: &[i32]) -> Result<u32, Fault>
     ensures { Does
         (cycle_of lent.now state.old samples.now)
         (cycled_of result) state.new }
 {
-    let number = judge_cycle(lent, &state[..], samples);
-    if 0 < number {
-        return stopped(number);
-    }
-    let total = run_cycle(image_valid::image_in(lent), &mut state[..], samples);
-    Cycled::Commands(total)
+    let image = judge_cycle(lent, &state[..], samples)?;
+    Ok(run_cycle(image, &mut state[..], samples))
 }

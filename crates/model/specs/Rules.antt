@@ -7,6 +7,7 @@ pub mod Table
 pub mod Command
 pub mod Program
 pub mod Rates
+pub mod Refusal
 pub mod Cover
 pub mod Schedule
 pub mod Reads

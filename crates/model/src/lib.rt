@@ -1,7 +1,11 @@
 // The types that the definitions of specs/ and the code of the other crates share, and the numbers of the refusals.
 #![tactic(auto)]
 
+ghost use Rattle.std.specs.Prelude.{None, ◌≡◌};
+
 pub mod refusals;
+
+pub use refusals::Refusal;
 
 // The index of a read: one of its n, or left open for the schedule to settle (255 in the text).
 #[derive(Clone, Copy)]
@@ -54,6 +58,8 @@ pub enum Mode {
     Exists,
     Backward,
 }
+
+// The commands are enums with an end-early and an unknown case, and no Results: paper 01 asks for that form.
 
 // A command of the program text that is none of an expression, with its operands; the expression of an EQ and the LINKs of a
 // LAT are commands of their own.
@@ -140,13 +146,6 @@ pub enum Code {
     If,
 }
 
-// How many bytes a command takes, its own and its operands; a byte that is not listed for its kind of text has none.
-#[derive(Clone, Copy)]
-pub enum Width {
-    Bytes(usize),
-    Unlisted,
-}
-
 // An operand of a command: an unsigned number of 1, 2 or 4 bytes, a word, the index of a read, the mode of a LAT.
 #[derive(Clone, Copy)]
 pub enum Operand {
@@ -158,47 +157,27 @@ pub enum Operand {
     Mode,
 }
 
-// What a search for an index finds.
-#[derive(Clone, Copy)]
-pub enum Found {
-    At(usize),
-    Nowhere,
-}
-
-// A refusal: its number and its place.
+// A refusal: its number and its place. A number and no `Refusal`: C callers get it, and the definitions have the paper's numbers.
 #[derive(Clone, Copy)]
 pub struct Fault {
     pub number: u8,
     pub place: usize,
 }
 
-// What a call or a step yields: a number, or the refusal.
+// Why `join` refuses: the refusal, and the part that it names where it is one inside a part.
 #[derive(Clone, Copy)]
-pub enum Yielded {
-    Number(usize),
-    Refused(Fault),
+pub struct JoinFault {
+    pub fault: Fault,
+    pub part: Option<usize>,
 }
 
-// What `join` answers: the length of the image with its tail, or the refusal, with its part where it is one inside a part.
-#[derive(Clone, Copy)]
-pub enum Joined {
-    Length(usize),
-    Refused(Fault),
-    RefusedIn(usize, Fault),
-}
+// A refusal that names no part.
+impl From<Fault> for JoinFault {
+    ghost from_gives = { λ fault e. e ≡ record { fault = fault; part = None } };
 
-// What `reset` answers.
-#[derive(Clone, Copy)]
-pub enum Ran {
-    Done,
-    Refused(Fault),
-}
-
-// What `cycle` answers: how many commands it ran, or the refusal.
-#[derive(Clone, Copy)]
-pub enum Cycled {
-    Commands(u32),
-    Refused(Fault),
+    fn from(fault: Fault) -> JoinFault {
+        JoinFault { fault, part: None }
+    }
 }
 
 // What an accepted pair needs: the image's length, that with its tail, and the highest stack use of any signal.
@@ -207,11 +186,4 @@ pub struct Sizes {
     pub length: usize,
     pub written: usize,
     pub stack: usize,
-}
-
-// What `report` answers.
-#[derive(Clone, Copy)]
-pub enum Reported {
-    Sizes(Sizes),
-    Refused(Fault),
 }

@@ -98,15 +98,13 @@ fn narrow_by_signal(
         Narrowed p (λ x f. All (ReadStays p s x f reader) (body_reads (signal_at p reader).body))
         lows.old highs.old lows.new highs.new) }
 {
-    let mut i = basics::from_entry(firsts[reader]);
     let end = basics::from_entry(firsts[reader + 1]);
-    while i < end {
+    for i in basics::from_entry(firsts[reader])..end {
         let at = basics::from_entry(reads[i]);
         let taken = text_command::taken_at(text, at);
         let kind = taken.kind;
         let operands = taken.operands;
         narrow_by_read(lows, highs, periods, phases, ranks, reader, kind, operands);
-        i = i + 1;
     }
 }
 
@@ -130,12 +128,10 @@ pub fn narrow_by_reads(
         ranks.now (λ p s. count p ≡ signals → Narrowed p (ReadsStay p s)
         lows.old highs.old lows.new highs.new) }
 {
-    let mut reader: usize = 0;
-    while reader < signals {
+    for reader in 0..signals {
         narrow_by_signal(
             lows, highs, text, reads, firsts, periods, phases, ranks, reader,
         );
-        reader = reader + 1;
     }
 }
 
@@ -193,10 +189,8 @@ pub fn narrow_by_chains(
         timely p s h ≡ accepted tt → Narrowed p (ChainsStay p s h)
         lows.old highs.old lows.new highs.new) }
 {
-    let mut chain: usize = 0;
-    while chain < tables.chains {
+    for chain in 0..tables.chains {
         let leeway = check_latency::leeway_of(text, reads, tables, periods, phases, h, chain);
         narrow_by_chain(lows, highs, phases, leeway);
-        chain = chain + 1;
     }
 }

@@ -1,4 +1,5 @@
 -- The chains of a pair with one phase set: which runs count stays, and each latency changes alike. Assumes nothing.
+use Rattle.std.specs.Prelude.{Option, Some, None}
 use Prim.Native.Nat.{ℕ, zero, suc, ◌+◌, ◌*◌, ◌-◌, ◌/◌, ◌≤◌, ◌<◌}
 use mathlib.Core.Bool.{Bool, true, false, cond, not, false≢true}
 use mathlib.Core.List.{List, [], ◌∷◌}
@@ -32,8 +33,6 @@ use Rattle.model.specs.Rules.Reads.{rate_of, run_cycle, stored, before, settled}
 use Rattle.model.specs.Rules.Schedule.{Schedule, phase_of}
 use Rattle.model.specs.Rules.Search.{first_below, is_found, all_below}
 use Rattle.model.specs.Says.Feasible.{All, Feasible, Multiple}
-use Rattle.model.specs.declared.Found.{Found}
-use Rattle.model.specs.declared.Found.TheVariants.{At, Nowhere}
 use Rattle.model.specs.declared.Mode.{Mode}
 use Rattle.model.specs.declared.Mode.TheVariants.{Exists, Backward}
 use Rattle.model.proofs.Basics.Tests.{together}
@@ -50,7 +49,7 @@ module _ (p : Program) (s : Schedule) (acc : Feasible p s) (h : ℕ) (whole : Mu
   period-most x lt = le_of_dvd whole.positive (whole.divides x lt)
 
   counts : (ρs : List Read) (r k : ℕ) → r < count p → ChainMet p s r ρs → length ρs * h ≤ run_cycle (rate_of p s r) k →
-      (m : ℕ) × (back p s r k ρs ≡ At m)
+      (m : ℕ) × (back p s r k ρs ≡ Some m)
   unfolding back
   counts [] r k lt ch le = (k, refl)
   counts (ρ ∷ ρs) r k lt ch le =
@@ -64,8 +63,8 @@ module _ (p : Program) (s : Schedule) (acc : Feasible p s) (h : ℕ) (whole : Mu
       t = run_cycle (rate_of p s r) k + bit (before s w r)
 
       go : (j : ℕ) → stored (rate_of p s w) t ≡ j →
-          ((j : ℕ) → length ρs * h ≤ run_cycle (rate_of p s w) j → (m : ℕ) × (back p s w j ρs ≡ At m)) →
-          (m : ℕ) × (onward (λ m. back p s w m ρs) j ≡ At m)
+          ((j : ℕ) → length ρs * h ≤ run_cycle (rate_of p s w) j → (m : ℕ) × (back p s w j ρs ≡ Some m)) →
+          (m : ℕ) × (onward (λ m. back p s w m ρs) j ≡ Some m)
       go zero e ih =
           let v = acc.ordered.phases w ch.0.declared in
           let l = rw e at (stored_low (rate_of p s w) t v) in
@@ -109,11 +108,11 @@ module _ (p : Program) (s s' : Schedule) where
   source-same (ρ ∷ ρs) r = source-same ρs ρ.operands.signal
 
 -- Latencies that change alike: l' less l is u less v.
-abbrev Shifted : ℕ → ℕ → Found → Found → Type 0
-Shifted u v (At l) (At l') = l' + v ≡ l + u
-Shifted u v (At l) Nowhere = ⊥
-Shifted u v Nowhere (At l') = ⊥
-Shifted u v Nowhere Nowhere = Unit {0}
+abbrev Shifted : ℕ → ℕ → Option ℕ → Option ℕ → Type 0
+Shifted u v (Some l) (Some l') = l' + v ≡ l + u
+Shifted u v (Some l) None = ⊥
+Shifted u v None (Some l') = ⊥
+Shifted u v None None = Unit {0}
 
 module _ (p : Program) (s s' : Schedule) (acc : Feasible p s) (acc' : Feasible p s') (r : ℕ) (ρs : List Read) (lt : r < count p)
     (ch : ChainMet p s r ρs) (ch' : ChainMet p s' r ρs) (al : ChainAlike p s s' r ρs) where
@@ -131,33 +130,33 @@ module _ (p : Program) (s s' : Schedule) (acc : Feasible p s) (acc' : Feasible p
   shifted k =
       rw (sym (source-same p s s' ρs r), sym (back-same p s s' ρs r k al)) (go (back p s r k ρs) refl)
     where
-      go : (f : Found) → back p s r k ρs ≡ f → Shifted u v (latency_from p s r k a f) (latency_from p s' r k a f)
-      go (At m) e =
+      go : (f : Option ℕ) → back p s r k ρs ≡ f → Shifted u v (latency_from p s r k a f) (latency_from p s' r k a f)
+      go (Some m) e =
           let l = latency-adds p s acc r ρs lt ch k m e in
           let l' = subst (λ b. latency_of (rate_of p s' r) k (rate_of p s' b) m + run_cycle (rate_of p s' b) m ≡ run_cycle (rate_of p
           s' r) k + 1)
           (sym (source-same p s s' ρs r))
           (latency-adds p s' acc' r ρs lt ch' k m (sym (back-same p s s' ρs r k al) ∙ e)) in
           omega (arith, l, l')
-      go Nowhere e = tt
+      go None e = tt
 
-  run-found : (k m : ℕ) → back p s r k ρs ≡ At m → run_latency p s r ρs k ≡ At (latency_of (rate_of p s r) k (rate_of p s a) m)
+  run-found : (k m : ℕ) → back p s r k ρs ≡ Some m → run_latency p s r ρs k ≡ Some (latency_of (rate_of p s r) k (rate_of p s a) m)
   unfolding run_latency
   run-found k m q = rw q
 
-  late-shift : (b b' : ℕ) → b + v ≡ b' + u → (f f' : Found) → Shifted u v f f' → is_late p s' b f' ≡ is_late p s b' f
-  late-shift b b' e (At l) (At l') q =
+  late-shift : (b b' : ℕ) → b + v ≡ b' + u → (f f' : Option ℕ) → Shifted u v f f' → is_late p s' b f' ≡ is_late p s b' f
+  late-shift b b' e (Some l) (Some l') q =
       together _ _ (λ t. lt-ltb b' l (omega (arith, ltb-true b l' t))) (λ t. lt-ltb b l' (omega (arith, ltb-true b' l t)))
-  late-shift b b' e (At l) Nowhere q = absurd q
-  late-shift b b' e Nowhere (At l') q = absurd q
-  late-shift b b' e Nowhere Nowhere q = refl
+  late-shift b b' e (Some l) None q = absurd q
+  late-shift b b' e None (Some l') q = absurd q
+  late-shift b b' e None None q = refl
 
-  in-time-shift : (b b' : ℕ) → b + v ≡ b' + u → (f f' : Found) → Shifted u v f f' → is_in_time p s' b f' ≡ is_in_time p s b' f
-  in-time-shift b b' e (At l) (At l') q =
+  in-time-shift : (b b' : ℕ) → b + v ≡ b' + u → (f f' : Option ℕ) → Shifted u v f f' → is_in_time p s' b f' ≡ is_in_time p s b' f
+  in-time-shift b b' e (Some l) (Some l') q =
       together _ _ (λ t. le-leb l b' (omega (arith, leb-true l' b t))) (λ t. le-leb l' b (omega (arith, leb-true l b' t)))
-  in-time-shift b b' e (At l) Nowhere q = absurd q
-  in-time-shift b b' e Nowhere (At l') q = absurd q
-  in-time-shift b b' e Nowhere Nowhere q = refl
+  in-time-shift b b' e (Some l) None q = absurd q
+  in-time-shift b b' e None (Some l') q = absurd q
+  in-time-shift b b' e None None q = refl
 
   timely-shift : (mode : Mode) (b b' from window : ℕ) → b + v ≡ b' + u →
       is_timely p s' mode r ρs b from window ≡ is_timely p s mode r ρs b' from window
@@ -190,26 +189,26 @@ module _ (p : Program) (s s' : Schedule) (acc : Feasible p s) (acc' : Feasible p
         go (run_latency p s r ρs (from + 0)) (run_latency p s' r ρs (from + 0)) (shifted (from + 0)) (found from m)
         (all_true _ _ e 0 some-run)
       where
-        found : (from : ℕ) → (m : ℕ) × (back p s r from ρs ≡ At m) → (l : ℕ) × (run_latency p s r ρs (from + 0) ≡ At l)
+        found : (from : ℕ) → (m : ℕ) × (back p s r from ρs ≡ Some m) → (l : ℕ) × (run_latency p s r ρs (from + 0) ≡ Some l)
         found from (m, q) =
             let z : from + 0 ≡ from = omega arith in
             (latency_of (rate_of p s r) from (rate_of p s a) m, rw z (run-found from m q))
 
-        go : (f f' : Found) → Shifted u v f f' → (l : ℕ) × (f ≡ At l) → not (is_late p s' b f') ≡ true → u ≤ b + v
-        go (At l) (At l') q t n = omega (arith, ltb-false b l' (not-true _ n))
-        go (At l) Nowhere q t n = absurd q
-        go Nowhere (At l') q t n = absurd q
-        go Nowhere Nowhere q t n = let z : ◌≡◌ {A = ℕ} 0 1 = cc t.1 in absurd (omega arith)
+        go : (f f' : Option ℕ) → Shifted u v f f' → (l : ℕ) × (f ≡ Some l) → not (is_late p s' b f') ≡ true → u ≤ b + v
+        go (Some l) (Some l') q t n = omega (arith, ltb-false b l' (not-true _ n))
+        go (Some l) None q t n = absurd q
+        go None (Some l') q t n = absurd q
+        go None None q t n = let z : ◌≡◌ {A = ℕ} 0 1 = cc t.1 in absurd (omega arith)
     not-below Exists b e =
         let k = is_found-true _ _ e in
         let j = length ρs * (h / (signal_at p r).period) + k.0 in
         go (run_latency p s r ρs j) (run_latency p s' r ρs j) (shifted j) k.2
       where
-        go : (f f' : Found) → Shifted u v f f' → is_in_time p s' b f' ≡ true → u ≤ b + v
-        go (At l) (At l') q n = omega (arith, leb-true l' b n)
-        go (At l) Nowhere q n = absurd q
-        go Nowhere (At l') q n = absurd q
-        go Nowhere Nowhere q n = absurd (false≢true n)
+        go : (f f' : Option ℕ) → Shifted u v f f' → is_in_time p s' b f' ≡ true → u ≤ b + v
+        go (Some l) (Some l') q n = omega (arith, leb-true l' b n)
+        go (Some l) None q n = absurd q
+        go None (Some l') q n = absurd q
+        go None None q n = absurd (false≢true n)
 
 module _ (p : Program) (s s' : Schedule) (x f : ℕ) (mv : Moved p s x f s') where
   pub phase-after : (y : ℕ) → y < count p → phase_of s' y ≡ phase_after s x f y

@@ -1,4 +1,5 @@
 -- The load of a pair with one phase set. Assumes nothing.
+use Rattle.std.specs.Prelude.{Option, Some, None}
 use Prim.Native.Nat.{ℕ, zero, suc, ◌+◌, ◌≤◌, ◌<◌}
 use mathlib.Core.Bool.{Bool, true, false, cond, false≢true}
 use mathlib.Core.Logic.{◌↔◌, inl, inr}
@@ -12,8 +13,6 @@ use Rattle.model.specs.Rules.Program.{Program, Limit, unlimited, limit, count, s
 use Rattle.model.specs.Rules.Reads.{Rate, rate_of, due}
 use Rattle.model.specs.Rules.Schedule.{Schedule, phase_of}
 use Rattle.model.specs.Rules.Search.{first_below, sum, table, table_from}
-use Rattle.model.specs.declared.Found.{Found}
-use Rattle.model.specs.declared.Found.TheVariants.{At, Nowhere}
 use Rattle.model.proofs.Basics.Outcomes.{accepted≢refused}
 use Rattle.model.proofs.Pairs.Decide.{is-first}
 use Rattle.read_rule.specs.Reads.{at_phase}
@@ -59,13 +58,13 @@ loaded-decides p s h = (λ e. there (first_below h over) refl e, λ g. back (fir
     over : ℕ → Bool
     over c = is_over p.cap (load p s c)
 
-    there : (f : Found) → first_below h over ≡ f → loaded_of f ≡ accepted tt → WithinCap p s h
-    there (At c) q e = absurd (accepted≢refused _ tt _ e refl)
-    there Nowhere q e = λ c lt. is-first h over Nowhere q c (omega arith) (omega arith)
+    there : (f : Option ℕ) → first_below h over ≡ f → loaded_of f ≡ accepted tt → WithinCap p s h
+    there (Some c) q e = absurd (accepted≢refused _ tt _ e refl)
+    there None q e = λ c lt. is-first h over None q c (omega arith) (omega arith)
 
-    back : (f : Found) → first_below h over ≡ f → WithinCap p s h → loaded_of f ≡ accepted tt
-    back (At c) q g = let k = is-first h over (At c) q in absurd (false≢true (sym (g c (omega (arith, k.1))) ∙ k.2))
-    back Nowhere q g = refl
+    back : (f : Option ℕ) → first_below h over ≡ f → WithinCap p s h → loaded_of f ≡ accepted tt
+    back (Some c) q g = let k = is-first h over (Some c) q in absurd (false≢true (sym (g c (omega (arith, k.1))) ∙ k.2))
+    back None q g = refl
 
 less-over : (l : Limit) (a b : ℕ) → b ≤ a → is_over l a ≡ false → is_over l b ≡ false
 less-over unlimited a b le e = refl

@@ -101,7 +101,7 @@ module _ {text reads schedule : List ℕ} {t : PairTables} {q : Pair} (k : Accep
     period-is = k.arranged.stands.tables-are.periods x lt
 
     load_here : (c : ℕ) → c < t.hypercycle →
-        is_over (cap_of t.tables.capped t.tables.limit) (get_or loads c 0 + get_or weights x 0) ≡
+        is_over (cap_of t.tables.cap) (get_or loads c 0 + get_or weights x 0) ≡
         is_over p.cap (load p s c + weight_of (signal_at p x).body)
     load_here c lc =
         let a = l c lc ∙ ap (λ n. load_in periods phases weights n c) (sym counted) ∙
@@ -115,17 +115,17 @@ module _ {text reads schedule : List ℕ} {t : PairTables} {q : Pair} (k : Accep
     due-here : (c : ℕ) → due (record { period = get_or periods x 0; phase = f }) c ≡ due (at_phase (rate_of p s x) f) c
     due-here c = ap (λ m. due (record { period = m; phase = f }) c) period-is
 
-    fits-room : FitsAt loads t.tables.capped t.tables.limit (get_or periods x 0) (get_or weights x 0) (get_or phases x 0)
+    fits-room : FitsAt loads t.tables.cap (get_or periods x 0) (get_or weights x 0) (get_or phases x 0)
         t.hypercycle f ↔ Room p s t.hypercycle x f
     fits-room = (there, back)
       where
-        there : FitsAt loads t.tables.capped t.tables.limit (get_or periods x 0) (get_or weights x 0) (get_or phases x 0)
+        there : FitsAt loads t.tables.cap (get_or periods x 0) (get_or weights x 0) (get_or phases x 0)
             t.hypercycle f → Room p s t.hypercycle x f
         there (inl e) = inl (e ∙ k.arranged.slots-are.phases-are x lt)
         there (inr h) = inr (λ c lc d. sym (load_here c lc) ∙ h c lc (due-here c ∙ d))
 
         back : Room p s t.hypercycle x f →
-            FitsAt loads t.tables.capped t.tables.limit (get_or periods x 0) (get_or weights x 0) (get_or phases x 0)
+            FitsAt loads t.tables.cap (get_or periods x 0) (get_or weights x 0) (get_or phases x 0)
             t.hypercycle f
         back (inl e) = inl (e ∙ sym (k.arranged.slots-are.phases-are x lt))
         back (inr h) = inr (λ c lc d. load_here c lc ∙ h c lc (sym (due-here c) ∙ d))
@@ -144,7 +144,7 @@ module _ {text reads schedule : List ℕ} {t : PairTables} {q : Pair} (k : Accep
   pub tells : (lows highs l₁ h₁ loads : List ℕ) → ((x : ℕ) → x < 64 → get_or lows x 0 ≡ 0) →
       ((x : ℕ) → x < 64 → get_or highs x 0 ≡ get_or periods x 0) → NarrowedBy q t.hypercycle lows highs l₁ h₁ →
       LoadsOf periods phases weights signals t.hypercycle loads →
-      TellsMoves (may_take text schedule q) signals l₁ h₁ loads t.tables.capped t.tables.limit periods weights phases
+      TellsMoves (may_take text schedule q) signals l₁ h₁ loads t.tables.cap periods weights phases
       t.hypercycle
   tells lows highs l₁ h₁ loads zero-low all-high a l x f lx lf =
       let lt : x < count p = omega (arith, counted) in

@@ -1,5 +1,5 @@
 -- What the functions that list moves stand for.
-use Rattle.std.specs.Prelude.{ℕ, ◌+◌, ◌*◌, ◌<◌, Bool, true, false, cond, List, ◌++◌, ◌↔◌, ◌⊎◌, ◌≡◌, ltb, length, get_or, set}
+use Rattle.std.specs.Prelude.{ℕ, ◌+◌, ◌*◌, ◌<◌, Option, Bool, true, false, cond, List, ◌++◌, ◌↔◌, ◌⊎◌, ◌≡◌, ltb, length, get_or, set}
 use Rattle.model.specs.Rules.Compile.{Pair, pair_of}
 use Rattle.model.specs.Rules.Load.{is_over}
 use Rattle.model.specs.Rules.Outcome.{accepted}
@@ -14,14 +14,14 @@ use Rattle.model.specs.Rules.Moves.{Entry, entry_if, written}
 use Rattle.model.specs.Rules.Search.{join_below}
 
 -- In no cycle below h in which the rate is due is the load over the limit with this weight more.
-abbrev pub Spare : List ℕ → Bool → ℕ → Rate → ℕ → ℕ → Type 0
-Spare loads capped limit a weight h =
-    (c : ℕ) → c < h → due a c ≡ true → is_over (cap_of capped limit) (get_or loads c 0 + weight) ≡ false
+abbrev pub Spare : List ℕ → Option ℕ → Rate → ℕ → ℕ → Type 0
+Spare loads cap a weight h =
+    (c : ℕ) → c < h → due a c ≡ true → is_over (cap_of cap) (get_or loads c 0 + weight) ≡ false
 
 -- A signal of this period and weight, whose phase is `present`, fits at phase f.
-abbrev pub FitsAt : List ℕ → Bool → ℕ → (period weight present h f : ℕ) → Type 0
-FitsAt loads capped limit period weight present h f =
-    (f ≡ present) ⊎ Spare loads capped limit (record { period = period; phase = f }) weight h
+abbrev pub FitsAt : List ℕ → Option ℕ → (period weight present h f : ℕ) → Type 0
+FitsAt loads cap period weight present h f =
+    (f ≡ present) ⊎ Spare loads cap (record { period = period; phase = f }) weight h
 
 -- The list with entry `count` written where it has space for it whole.
 abbrev pub put_entry : List ℕ → ℕ → ℕ → ℕ → List ℕ
@@ -50,22 +50,22 @@ Lists Q x n low high list list' count count' =
     Written (es ++ passing x n g) list₀ list' count'
 
 -- For the first n signals, g tells by the tables which phases are left and fit.
-abbrev pub TellsMoves : (ℕ → ℕ → Bool) → ℕ → (lows highs loads : List ℕ) → Bool → ℕ → (periods weights phases : List ℕ) → ℕ →
+abbrev pub TellsMoves : (ℕ → ℕ → Bool) → ℕ → (lows highs loads : List ℕ) → Option ℕ → (periods weights phases : List ℕ) → ℕ →
     Type 0
-TellsMoves g n lows highs loads capped limit periods weights phases h =
+TellsMoves g n lows highs loads cap periods weights phases h =
     (x f : ℕ) → x < n → f < get_or periods x 0 →
     (g x f ≡ true) ↔
-    (IsLeft lows highs x f × FitsAt loads capped limit (get_or periods x 0) (get_or weights x 0) (get_or phases x 0) h f)
+    (IsLeft lows highs x f × FitsAt loads cap (get_or periods x 0) (get_or weights x 0) (get_or phases x 0) h f)
 
 -- No phase is left to a signal that is not below its period.
 abbrev pub LeftBelow : ℕ → (lows highs periods : List ℕ) → Type 0
 LeftBelow n lows highs periods = (x f : ℕ) → x < n → IsLeft lows highs x f → f < get_or periods x 0
 
 -- The entries that g lets pass are written, whichever g tells by the tables.
-abbrev pub ListsAll : ℕ → (lows highs loads : List ℕ) → Bool → ℕ → (periods weights phases : List ℕ) → ℕ →
+abbrev pub ListsAll : ℕ → (lows highs loads : List ℕ) → Option ℕ → (periods weights phases : List ℕ) → ℕ →
     (list list' : List ℕ) → ℕ → Type 0
-ListsAll n lows highs loads capped limit periods weights phases h list list' count =
-    (g : ℕ → ℕ → Bool) → TellsMoves g n lows highs loads capped limit periods weights phases h →
+ListsAll n lows highs loads cap periods weights phases h list list' count =
+    (g : ℕ → ℕ → Bool) → TellsMoves g n lows highs loads cap periods weights phases h →
     Written (join_below n (λ x. passing x (get_or periods x 0) (g x))) list list' count
 
 -- The tables are those of the accepted pair q of these texts.

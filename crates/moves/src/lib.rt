@@ -1,7 +1,7 @@
 // Where one job may go: the phases that each signal of an accepted pair may take while all else stays.
 #![tactic(auto)]
 
-ghost use Rattle.std.specs.Prelude.{true, List, ◌↔◌, ◌≡◌, ℕ, ◌+◌, ◌*◌, ◌≤◌, ◌<◌, length, get_or};
+ghost use Rattle.std.specs.Prelude.{Some, true, List, ◌↔◌, ◌≡◌, ℕ, ◌+◌, ◌*◌, ◌≤◌, ◌<◌, length, get_or};
 ghost use Rattle.model.specs.Rules.Machine.{Does};
 ghost use Rattle.model.specs.Rules.Compile.{Pair};
 ghost use Rattle.model.specs.Rules.Moves.{all_entries, moves_of};
@@ -12,8 +12,7 @@ ghost use Rattle.move_rule.specs.Narrowing.{Long};
 ghost use Rattle.moves.specs.Listing.{Spare, FitsAt, put_entry, ListsOne, Lists, LeftBelow, ListsAll, Written};
 ghost use Rattle.moves.specs.Listing.{AcceptedBy, Accepted, NarrowedBy};
 
-use basics::Judged;
-use model::Yielded;
+use model::Fault;
 use text_schedule::PairTables;
 
 // The load of a cycle with a weight more.
@@ -26,17 +25,15 @@ fn load_with(load: u32, weight: u16) -> u64
 // Whether a signal may run in the cycles of this phase: in none of them is the load over the limit with its weight more.
 fn has_room(loads: &[u32; 240], limit: u32, period: u8, weight: u16, phase: usize, h: usize) -> bool
     requires { (phase < period) × (h ≤ 240) }
-    ensures { (result ≡ true) ↔ Spare loads.now true limit (record { period = period; phase = phase }) weight h }
+    ensures { (result ≡ true) ↔ Spare loads.now (Some limit) (record { period = period; phase = phase }) weight h }
 {
     let step = basics::from_byte(period);
     let most = limit as u64;
-    let mut next = phase;
-    while next < h {
+    for next in (phase..h).step_by(step) {
         let load = load_with(loads[next], weight);
         if most < load {
             return false;
         }
-        next = next + step;
     }
     true
 }
@@ -44,8 +41,7 @@ fn has_room(loads: &[u32; 240], limit: u32, period: u8, weight: u16, phase: usiz
 // Whether a signal fits at a phase: its present one, or one whose cycles have room for it. Without CAP there is room everywhere.
 fn fits(
     loads: &[u32; 240],
-    capped: bool,
-    limit: u32,
+    cap: Option<u32>,
     period: u8,
     weight: u16,
     present: u8,
@@ -53,11 +49,11 @@ fn fits(
     h: usize,
 ) -> bool
     requires { (phase < period) × (h ≤ 240) }
-    ensures { (result ≡ true) ↔ FitsAt loads.now capped limit period weight present h phase }
+    ensures { (result ≡ true) ↔ FitsAt loads.now cap period weight present h phase }
 {
-    if !capped {
+    let Some(limit) = cap else {
         return true;
-    }
+    };
     if phase == basics::from_byte(present) {
         return true;
     }
@@ -84,18 +80,17 @@ fn list_phase(
     x: u8,
     phase: usize,
     loads: &[u32; 240],
-    capped: bool,
-    limit: u32,
+    cap: Option<u32>,
     period: u8,
     weight: u16,
     present: u8,
     h: usize,
 ) -> usize
     requires { (phase < period) × (h ≤ 240) × (count ≤ 100000) }
-    ensures { ListsOne (FitsAt loads.now capped limit period weight present h phase)
+    ensures { ListsOne (FitsAt loads.now cap period weight present h phase)
         x phase list.old list.new count result }
 {
-    if !fits(loads, capped, limit, period, weight, present, phase, h) {
+    if !fits(loads, cap, period, weight, present, phase, h) {
         return count;
     }
     put_entry(list, count, x, phase as u8);
@@ -111,8 +106,7 @@ fn list_signal(
     low: usize,
     high: usize,
     loads: &[u32; 240],
-    capped: bool,
-    limit: u32,
+    cap: Option<u32>,
     period: u8,
     weight: u16,
     present: u8,
@@ -120,16 +114,14 @@ fn list_signal(
 ) -> usize
     requires { (h ≤ 240) × (count ≤ 20000) × ((f : ℕ) → Between low f high → f < period) }
     ensures { (result ≤ count + 256) × (length list.new ≡ length list.old) ×
-        Lists (FitsAt loads.now capped limit period weight present h)
+        Lists (FitsAt loads.now cap period weight present h)
         x period low high list.old list.new count result }
 {
     let mut entries = count;
-    let mut phase = low;
-    while phase < high {
+    for phase in low..high {
         entries = list_phase(
-            list, entries, x, phase, loads, capped, limit, period, weight, present, h,
+            list, entries, x, phase, loads, cap, period, weight, present, h,
         );
-        phase = phase + 1;
     }
     entries
 }
@@ -141,25 +133,22 @@ fn list_signals(
     lows: &[usize; 64],
     highs: &[usize; 64],
     loads: &[u32; 240],
-    capped: bool,
-    limit: u32,
+    cap: Option<u32>,
     periods: &[u8; 64],
     weights: &[u16; 64],
     phases: &[u8; 64],
     h: usize,
 ) -> usize
     requires { (signals ≤ 64) × (h ≤ 240) × LeftBelow signals lows.now highs.now periods.now }
-    ensures { ListsAll signals lows.now highs.now loads.now capped limit
+    ensures { ListsAll signals lows.now highs.now loads.now cap
         periods.now weights.now phases.now h list.old list.new result }
 {
     let mut entries: usize = 0;
-    let mut x: usize = 0;
-    while x < signals {
+    for x in 0..signals {
         entries = list_signal(
-            list, entries, x as u8, lows[x], highs[x], loads, capped, limit, periods[x],
-            weights[x], phases[x], h,
+            list, entries, x as u8, lows[x], highs[x], loads, cap, periods[x], weights[x],
+            phases[x], h,
         );
-        x = x + 1;
     }
     entries
 }
@@ -169,10 +158,8 @@ fn all_phases(periods: &[u8; 64]) -> [usize; 64]
     ensures { (length result ≡ 64) × ((x : ℕ) → x < 64 → get_or result x 0 ≡ get_or periods.now x 0) }
 {
     let mut highs: [usize; 64] = [0; 64];
-    let mut x: usize = 0;
-    while x < 64 {
+    for x in 0..64 {
         highs[x] = basics::from_byte(periods[x]);
-        x = x + 1;
     }
     highs
 }
@@ -190,17 +177,29 @@ fn narrow_all(
         NarrowedBy q pair.hypercycle lows.old highs.old lows.new highs.new }
 {
     let tables = pair.tables;
-    let slots = pair.slots;
-    let firsts = tables.firsts;
-    let n = tables.signals;
     let periods = tables.periods;
-    let phases = slots.phases;
-    let ranks = slots.ranks;
-    let h = pair.hypercycle;
+    let slots = pair.slots;
     move_rule::narrow_by_reads(
-        lows, highs, text, reads, &firsts, n, &periods, &phases, &ranks,
+        lows,
+        highs,
+        text,
+        reads,
+        &tables.firsts,
+        tables.signals,
+        &periods,
+        &slots.phases,
+        &slots.ranks,
     );
-    move_rule::narrow_by_chains(lows, highs, text, reads, tables, &periods, &phases, h);
+    move_rule::narrow_by_chains(
+        lows,
+        highs,
+        text,
+        reads,
+        tables,
+        &periods,
+        &slots.phases,
+        pair.hypercycle,
+    );
 }
 
 // Lists the moves of an accepted pair by its tables, and yields how many there are.
@@ -221,66 +220,50 @@ fn list_moves(text: &[u8], reads: &[u16], pair: PairTables, list: &mut [u8]) -> 
     narrow_all(&mut lows, &mut highs, text, reads, pair);
     let loads = check_load::loads_of(n, &periods, &phases, &weights, h);
     list_signals(
-        list,
-        n,
-        &lows,
-        &highs,
-        &loads,
-        tables.capped,
-        tables.limit,
-        &periods,
-        &weights,
-        &phases,
-        h,
+        list, n, &lows, &highs, &loads, tables.cap, &periods, &weights, &phases, h,
     )
 }
 
 // The moves of a program and a schedule, with a table for the offsets of the reads.
-fn moves_with(program: &[u8], schedule: &[u8], reads: &mut [u16], list: &mut [u8]) -> Yielded
+fn moves_with(
+    program: &[u8],
+    schedule: &[u8],
+    reads: &mut [u16],
+    list: &mut [u8],
+) -> Result<usize, Fault>
     requires { Spacious (length program.now) (length reads.old) }
     ensures { Does
         (moves_of program.now schedule.now list.old)
         (yielded_of result) list.new }
 {
-    let checked = check_pair::check_with(program, schedule, reads);
-    let judged = checked.judged;
-    let Judged::Fine = judged else {
-        return basics::refused(judged);
-    };
-    let pair = checked.pair;
-    let count = list_moves(program, reads, pair, list);
-    Yielded::Number(count)
+    let pair = check_pair::check_with(program, schedule, reads)?;
+    Ok(list_moves(program, reads, pair, list))
 }
 
-// A program of at most 512 bytes, as its checks take one.
-fn moves_short(program: &[u8], schedule: &[u8], list: &mut [u8]) -> Yielded
-    requires { length program.now ≤ 512 }
+// With a table of ROOM entries: filling one for the longest program would take longer than the checks of a short one.
+fn moves_in<const ROOM: usize>(
+    program: &[u8],
+    schedule: &[u8],
+    list: &mut [u8],
+) -> Result<usize, Fault>
+    requires { Spacious (length program.now) ROOM × (ROOM ≤ 4096) }
     ensures { Does
         (moves_of program.now schedule.now list.old)
         (yielded_of result) list.new }
 {
-    let mut reads: [u16; 256] = [0; 256];
-    moves_with(program, schedule, &mut reads, list)
-}
-
-fn moves_long(program: &[u8], schedule: &[u8], list: &mut [u8]) -> Yielded
-    ensures { Does
-        (moves_of program.now schedule.now list.old)
-        (yielded_of result) list.new }
-{
-    let mut reads: [u16; 4096] = [0; 4096];
+    let mut reads: [u16; ROOM] = [0; ROOM];
     moves_with(program, schedule, &mut reads, list)
 }
 
 // Lists where one job may go: two bytes, signal and phase, for each move, by signal and then by rising phase, as many as the
 // list has space for; the rest of it stays. Yields how many moves there are. A refused call leaves the list as it was.
-pub fn moves(program: &[u8], schedule: &[u8], list: &mut [u8]) -> Yielded
+pub fn moves(program: &[u8], schedule: &[u8], list: &mut [u8]) -> Result<usize, Fault>
     ensures { Does
         (moves_of program.now schedule.now list.old)
         (yielded_of result) list.new }
 {
     if program.len() <= 512 {
-        return moves_short(program, schedule, list);
+        return moves_in::<256>(program, schedule, list);
     }
-    moves_long(program, schedule, list)
+    moves_in::<4096>(program, schedule, list)
 }

@@ -4,269 +4,203 @@
 
 ghost use Rattle.std.specs.Prelude.{◌≤◌, ◌<◌, IfOk};
 
-use model::Yielded;
+use console::Stop;
 use std::io;
 
-fn byte(image: &[u8], at: usize) -> usize
-    ensures { result < 256 }
+// The bytes of an image, with its tail where it has one.
+#[derive(Clone, Copy)]
+struct Image<'a> {
+    bytes: &'a [u8],
+}
+
+impl<'a> Image<'a> {
+    fn byte(self, at: usize) -> usize
+        ensures { result < 256 }
+    {
+        self.bytes.get(at).copied().map_or(0, usize::from)
+    }
+
+    fn two(self, at: usize) -> usize
+        requires { at < 1000000 }
+        ensures { result < 65536 }
+    {
+        self.byte(at) + 256 * self.byte(at + 1)
+    }
+
+    fn word(self, at: usize) -> i32
+        requires { at < 900000 }
+    {
+        let bits = self.two(at) + 65536 * self.two(at + 2);
+        (bits as u32).cast_signed()
+    }
+
+    // Cycles and signals.
+    fn cycles(self) -> usize
+        ensures { result < 256 }
+    {
+        self.byte(0)
+    }
+
+    fn signals(self) -> usize
+        ensures { result < 256 }
+    {
+        self.byte(1)
+    }
+
+    // Where the image ends, and its tail starts.
+    fn end(self) -> usize
+        ensures { result < 65536 }
+    {
+        self.two(2)
+    }
+
+    // Where the offsets of the run lists start, which the offset of the rows follows.
+    fn lists(self) -> usize
+        ensures { result < 1600 }
+    {
+        4 + 6 * self.signals()
+    }
+
+    // Where the code of signal x starts; the code of the last one ends with the image.
+    fn code(self, x: usize) -> usize
+        ensures { result < 65536 }
+    {
+        if x < self.signals() {
+            self.two(8 + 6 * x)
+        } else {
+            self.end()
+        }
+    }
+}
+
+fn print_head(rt: &HostRuntime, image: Image) -> io::Result<()> {
+    let (h, n, end) = (image.cycles(), image.signals(), image.end());
+    println!(rt; "{:>5} head H {h} N {n} L {end}", 0)
+}
+
+fn print_records(rt: &HostRuntime, image: Image) -> io::Result<()> {
+    for x in 0..image.signals() {
+        let at = 4 + 6 * x;
+        let (initial, code) = (image.word(at), image.two(at + 4));
+        println!(rt; "{at:>5} signal {x} initial {initial} code at {code}")?;
+    }
+    Ok(())
+}
+
+// The list of cycle c, between its offset and the next.
+fn print_list(rt: &HostRuntime, image: Image, c: usize) -> io::Result<()>
+    requires { c < 256 }
 {
-    if at < image.len() {
-        return basics::from_byte(image[at]);
+    let at = image.lists() + 2 * c;
+    let from = image.two(at);
+    print!(rt; "{from:>5} cycle {c} runs")?;
+    for entry in from..image.two(at + 2) {
+        print!(rt; " {}", image.byte(entry))?;
     }
-    0
+    println!(rt)
 }
 
-fn two(image: &[u8], at: usize) -> usize
-    requires { at < 1000000 }
-    ensures { result < 65536 }
-{
-    byte(image, at) + 256 * byte(image, at + 1)
-}
-
-fn print_word(rt: &HostRuntime, image: &[u8], at: usize) -> io::Result<()>
-    requires { at < 900000 }
-{
-    let bits = two(image, at) + 65536 * two(image, at + 2);
-    if bits < 2147483648 {
-        return console::print_number(rt, bits);
-    }
-    console::print(rt, b"-")?;
-    console::print_number(rt, 4294967296 - bits)
-}
-
-// An offset, and what stands there.
-fn print_at(rt: &HostRuntime, at: usize, what: &[u8]) -> io::Result<()> {
-    console::print_padded(rt, at, 5)?;
-    console::print(rt, what)
-}
-
-fn print_pair(rt: &HostRuntime, text: &[u8], n: usize) -> io::Result<()> {
-    console::print(rt, text)?;
-    console::print_number(rt, n)
-}
-
-fn print_head(rt: &HostRuntime, image: &[u8]) -> io::Result<()> {
-    print_at(rt, 0, b" head")?;
-    print_pair(rt, b" H ", byte(image, 0))?;
-    print_pair(rt, b" N ", byte(image, 1))?;
-    print_pair(rt, b" L ", two(image, 2))?;
-    console::print(rt, b"\n")
-}
-
-fn print_record(rt: &HostRuntime, image: &[u8], x: usize) -> io::Result<()> {
-    if 255 < x {
-        return Ok(());
-    }
-    let at = 4 + 6 * x;
-    print_at(rt, at, b" signal ")?;
-    console::print_number(rt, x)?;
-    console::print(rt, b" initial ")?;
-    print_word(rt, image, at)?;
-    print_pair(rt, b" code at ", two(image, at + 4))?;
-    console::print(rt, b"\n")
-}
-
-fn print_records(rt: &HostRuntime, image: &[u8], n: usize) -> io::Result<()> {
-    let mut x: usize = 0;
-    while x < n {
-        print_record(rt, image, x)?;
-        x = x + 1;
+fn print_lists(rt: &HostRuntime, image: Image) -> io::Result<()> {
+    for c in 0..image.cycles() {
+        print_list(rt, image, c)?;
     }
     Ok(())
 }
 
-fn print_entries(rt: &HostRuntime, image: &[u8], from: usize, to: usize) -> io::Result<()> {
-    let mut at = from;
-    while at < to {
-        print_pair(rt, b" ", byte(image, at))?;
-        at = at + 1;
+// The rows, whose offset follows those of the run lists.
+fn print_rows(rt: &HostRuntime, image: Image) -> io::Result<()> {
+    let from = image.two(image.lists() + 2 * image.cycles());
+    let count = image.byte(from);
+    println!(rt; "{from:>5} rows {count}")?;
+    for i in 0..count {
+        let at = from + 1 + 12 * i;
+        let (low, high, gives) = (image.word(at), image.word(at + 4), image.word(at + 8));
+        println!(rt; "{at:>5} row from {low} to {high} gives {gives}")?;
     }
     Ok(())
 }
 
-// The list of cycle c, whose offset stands in the area after the records of n signals.
-fn print_list(rt: &HostRuntime, image: &[u8], n: usize, c: usize) -> io::Result<()> {
-    if 255 < n {
-        return Ok(());
-    }
-    if 255 < c {
-        return Ok(());
-    }
-    let at = 4 + 6 * n + 2 * c;
-    let from = two(image, at);
-    print_at(rt, from, b" cycle ")?;
-    console::print_number(rt, c)?;
-    console::print(rt, b" runs")?;
-    print_entries(rt, image, from, two(image, at + 2))?;
-    console::print(rt, b"\n")
-}
-
-fn print_lists(rt: &HostRuntime, image: &[u8], n: usize, h: usize) -> io::Result<()> {
-    let mut c: usize = 0;
-    while c < h {
-        print_list(rt, image, n, c)?;
-        c = c + 1;
-    }
-    Ok(())
-}
-
-fn print_row(rt: &HostRuntime, image: &[u8], from: usize, i: usize) -> io::Result<()> {
-    if 65535 < from {
-        return Ok(());
-    }
-    if 255 < i {
-        return Ok(());
-    }
-    let at = from + 1 + 12 * i;
-    print_at(rt, at, b" row from ")?;
-    print_word(rt, image, at)?;
-    console::print(rt, b" to ")?;
-    print_word(rt, image, at + 4)?;
-    console::print(rt, b" gives ")?;
-    print_word(rt, image, at + 8)?;
-    console::print(rt, b"\n")
-}
-
-fn print_rows(rt: &HostRuntime, image: &[u8], from: usize, count: usize) -> io::Result<()> {
-    print_at(rt, from, b" rows ")?;
-    console::print_number(rt, count)?;
-    console::print(rt, b"\n")?;
-    let mut i: usize = 0;
-    while i < count {
-        print_row(rt, image, from, i)?;
-        i = i + 1;
-    }
-    Ok(())
-}
-
-// The commands of image code that are operators.
-fn print_operator(rt: &HostRuntime, code: usize) -> io::Result<()> {
+// The commands of image code that are operators, by their bytes: an enum would have each only to print it.
+fn operator(code: usize) -> &'static str {
     match code {
-        0x30 => console::print(rt, b" ADD"),
-        0x31 => console::print(rt, b" SUB"),
-        0x32 => console::print(rt, b" MUL"),
-        0x33 => console::print(rt, b" LESS"),
-        0x34 => console::print(rt, b" SAME"),
-        0x35 => console::print(rt, b" MIN"),
-        0x36 => console::print(rt, b" MAX"),
-        0x38 => console::print(rt, b" NEG"),
-        0x3A => console::print(rt, b" IF"),
-        _ => console::print(rt, b" TABLE"),
+        0x30 => "ADD",
+        0x31 => "SUB",
+        0x32 => "MUL",
+        0x33 => "LESS",
+        0x34 => "SAME",
+        0x35 => "MIN",
+        0x36 => "MAX",
+        0x38 => "NEG",
+        0x3A => "IF",
+        _ => "TABLE",
     }
 }
 
 // One command, and how many bytes it takes.
-fn print_command(rt: &HostRuntime, image: &[u8], at: usize) -> io::Result<usize>
+fn print_command(rt: &HostRuntime, image: Image, at: usize) -> io::Result<usize>
     requires { at < 65536 }
     ensures { IfOk result (λ n. (1 ≤ n) × (n ≤ 5)) }
 {
-    let code = byte(image, at);
-    if code == 0x50 {
-        console::print(rt, b" PUSH ")?;
-        print_word(rt, image, at + 1)?;
-        return Ok(5);
-    }
-    if code < 0x50 {
-        print_operator(rt, code)?;
-        return Ok(1);
-    }
+    let code = image.byte(at);
+    let signal = image.byte(at + 1);
     match code {
-        0x51 => console::print(rt, b" LOAD ")?,
-        0x52 => console::print(rt, b" FETCH ")?,
-        _ => console::print(rt, b" STORE ")?,
+        0x00..=0x4F => {
+            print!(rt; " {}", operator(code))?;
+            return Ok(1);
+        }
+        0x50 => {
+            print!(rt; " PUSH {}", image.word(at + 1))?;
+            return Ok(5);
+        }
+        0x51 => print!(rt; " LOAD {signal}")?,
+        0x52 => print!(rt; " FETCH {signal}")?,
+        _ => print!(rt; " STORE {signal}")?,
     }
-    console::print_number(rt, byte(image, at + 1))?;
     Ok(2)
 }
 
-fn print_commands(rt: &HostRuntime, image: &[u8], from: usize, to: usize) -> io::Result<()> {
-    let mut at = from;
-    while at < to {
-        if 65535 < at {
-            return Ok(());
-        }
-        at = at + print_command(rt, image, at)?;
-    }
-    Ok(())
-}
-
-// Where the code of signal x starts; the code of the last one ends with the image.
-fn code_at(image: &[u8], n: usize, x: usize) -> usize
-    ensures { result < 65536 }
+// The code of signal x, which ends where the next starts.
+fn print_code(rt: &HostRuntime, image: Image, x: usize) -> io::Result<()>
+    requires { x < 256 }
 {
-    if x < n {
-        if x < 64 {
-            return two(image, 8 + 6 * x);
-        }
+    let mut at = image.code(x);
+    let end = image.code(x + 1);
+    print!(rt; "{at:>5} code of signal {x}:")?;
+    // no `for`: each command says how far the next is
+    while at < end {
+        at += print_command(rt, image, at)?;
     }
-    two(image, 2)
+    println!(rt)
 }
 
-fn print_code(rt: &HostRuntime, image: &[u8], n: usize, x: usize) -> io::Result<()> {
-    if 63 < x {
-        return Ok(());
-    }
-    let from = code_at(image, n, x);
-    print_at(rt, from, b" code of signal ")?;
-    console::print_number(rt, x)?;
-    console::print(rt, b":")?;
-    print_commands(rt, image, from, code_at(image, n, x + 1))?;
-    console::print(rt, b"\n")
-}
-
-fn print_codes(rt: &HostRuntime, image: &[u8], n: usize) -> io::Result<()> {
-    let mut x: usize = 0;
-    while x < n {
-        print_code(rt, image, n, x)?;
-        x = x + 1;
+fn print_codes(rt: &HostRuntime, image: Image) -> io::Result<()> {
+    for x in 0..image.signals() {
+        print_code(rt, image, x)?;
     }
     Ok(())
 }
 
-// The entry of signal x in the tail after an image of L bytes.
-fn print_entry(rt: &HostRuntime, image: &[u8], x: usize, end: usize) -> io::Result<()> {
-    if 255 < x {
-        return Ok(());
-    }
-    if 65535 < end {
-        return Ok(());
-    }
-    let at = end + 4 * x;
-    print_at(rt, at, b" signal ")?;
-    console::print_number(rt, x)?;
-    print_pair(rt, b" label ", two(image, at))?;
-    print_pair(rt, b" period ", byte(image, at + 2))?;
-    print_pair(rt, b" phase ", byte(image, at + 3))?;
-    console::print(rt, b"\n")
-}
-
-fn print_tail(rt: &HostRuntime, image: &[u8], n: usize, end: usize) -> io::Result<()> {
-    let mut x: usize = 0;
-    while x < n {
-        print_entry(rt, image, x, end)?;
-        x = x + 1;
+// The tail after the image: an entry a signal.
+fn print_tail(rt: &HostRuntime, image: Image) -> io::Result<()> {
+    for x in 0..image.signals() {
+        let at = image.end() + 4 * x;
+        let (label, period, phase) = (image.two(at), image.byte(at + 2), image.byte(at + 3));
+        println!(rt; "{at:>5} signal {x} label {label} period {period} phase {phase}")?;
     }
     Ok(())
 }
 
 // Prints an image from a file, or that it is none.
-pub fn print_image(rt: &HostRuntime, image: &[u8]) -> io::Result<()> {
-    let length = image_valid::tail_length(image);
-    if let Yielded::Refused(fault) = length {
-        explain::refuse(rt, fault)?;
-        return console::say(rt, b"\n");
-    }
-    let h = byte(image, 0);
-    let n = byte(image, 1);
-    let end = two(image, 2);
+pub fn print_image(rt: &HostRuntime, bytes: &[u8]) -> Result<(), Stop> {
+    image_valid::tail_length(bytes).or_else(|fault| explain::refuse_call(rt, fault))?;
+    let image = Image { bytes };
     print_head(rt, image)?;
-    print_records(rt, image, n)?;
-    print_lists(rt, image, n, h)?;
-    let rows = two(image, 4 + 6 * n + 2 * h);
-    print_rows(rt, image, rows, byte(image, rows))?;
-    print_codes(rt, image, n)?;
-    if end < image.len() {
-        print_tail(rt, image, n, end)?;
+    print_records(rt, image)?;
+    print_lists(rt, image)?;
+    print_rows(rt, image)?;
+    print_codes(rt, image)?;
+    if image.end() < bytes.len() {
+        print_tail(rt, image)?;
     }
     Ok(())
 }

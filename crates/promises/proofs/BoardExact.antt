@@ -1,4 +1,5 @@
 -- Load, mark and turn do their job, and are refused with each number, exactly under the stated conditions. Assumes nothing.
+use Rattle.std.specs.Prelude.{Option, Some, None}
 use Prim.Native.Nat.{ℕ, ◌+◌, ◌*◌, ◌≤◌, ◌<◌}
 use mathlib.Core.Bool.{Bool, true, false}
 use mathlib.Core.List.{List}
@@ -11,8 +12,6 @@ use lib.ListN.{length}
 use Rattle.model.specs.Rules.Machine.{Effect, stretch, reset_of, cycle_of}
 use Rattle.model.specs.Rules.Outcome.{Outcome, accepted, refused, fault}
 use Rattle.model.specs.declared.Fault.{Fault}
-use Rattle.model.specs.declared.Found.{Found}
-use Rattle.model.specs.declared.Found.TheVariants.{At, Nowhere}
 use Rattle.theorems_calls.specs.Exactness.{ResetRefusedAt, Cycles, CycleRefusedAt}
 use Rattle.theorems_images.specs.WellFormed.{WellLent}
 use Rattle.theorems_calls.proofs.CallsExact.{reset-exactly, cycle-exactly}
@@ -364,7 +363,7 @@ module _ (m : NumberScene) (seventeen : length m.numbers ≡ 17) where
         })) (sym e)
 
     module _ (p : leb 260 (length m.state) ≡ true) (q : leb 256 (length samples) ≡ true) (k : ℕ)
-        (d : next_due (board_of m.numbers) ≡ At k) where
+        (d : next_due (board_of m.numbers) ≡ Some k) where
       below : k < 4
       below = next-below (board_of m.numbers) k d
 
@@ -398,7 +397,7 @@ module _ (m : NumberScene) (seventeen : length m.numbers ≡ 17) where
       turned : turn_of (board_of m.numbers) m.images m.state samples ≡
           board_done (took k run.answer) (taken_at (board_of m.numbers) k) (with_words k m.state run.left)
       unfolding turn_with
-      turned = turn-done (board_of m.numbers) m.images m.state samples p q (At k) d
+      turned = turn-done (board_of m.numbers) m.images m.state samples p q (Some k) d
 
       takes : (state : List ℤ) →
           Takes m samples k (record { numbers = taken_words m.numbers k; images = m.images; state = state })
@@ -467,12 +466,12 @@ module _ (m : NumberScene) (seventeen : length m.numbers ≡ 17) where
     unfolding turn_with
     turn-ends = state-long (leb 260 (length m.state)) refl
       where
-        due : leb 260 (length m.state) ≡ true → leb 256 (length samples) ≡ true → (d : Found) →
+        due : leb 260 (length m.state) ≡ true → leb 256 (length samples) ≡ true → (d : Option ℕ) →
             next_due (board_of m.numbers) ≡ d → TurnEnds
-        due p q (At k) d =
+        due p q (Some k) d =
             place-ends p q k d (leb (start_at m.numbers k + size_at m.numbers k) (length m.images)) refl
-        due p q Nowhere d =
-            let e = turn-done (board_of m.numbers) m.images m.state samples p q Nowhere d in
+        due p q None d =
+            let e = turn-done (board_of m.numbers) m.images m.state samples p q None d in
             by_turn e
             (does idle (ap (λ (x : BoardEffect Yield). x.answer) e)
             (Turns.idles (leb-true 260 (length m.state) p) (leb-true 256 (length samples) q) (next-none m.numbers d) refl))

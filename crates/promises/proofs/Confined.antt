@@ -1,4 +1,5 @@
 -- On a board the samples and the signals of one place reach nothing else. Assumes nothing.
+use Rattle.std.specs.Prelude.{Option, Some, None}
 use Prim.Native.Nat.{ℕ, ◌+◌, ◌-◌, ◌*◌, ◌/◌, ◌≤◌, ◌<◌}
 use mathlib.Core.Bool.{Bool, true, false, cond}
 use mathlib.Core.List.{List, ◌∷◌}
@@ -34,8 +35,6 @@ use Rattle.model.specs.Rules.Outcome.{Outcome, accepted, refused, refuse, ◌▷
 use Rattle.model.specs.declared.Fault.{Fault}
 use Rattle.model.proofs.Images.Cycles as Cycles
 use Rattle.model.proofs.Images.Tails.{lent-formed}
-use Rattle.model.specs.declared.Found.{Found}
-use Rattle.model.specs.declared.Found.TheVariants.{At, Nowhere}
 use Rattle.board.specs.Board.{
   place_at,
   place_words,
@@ -351,15 +350,15 @@ module _ (k : ℕ) (b : Board) (images : List ℕ) (state state' : List ℤ) (h 
   unfolding turn_with
   turn-but samples samples' many many' same = words (leb 260 (length state)) refl
     where
-      due : leb 260 (length state) ≡ true → (d : Found) → next_due b ≡ d →
+      due : leb 260 (length state) ≡ true → (d : Option ℕ) → next_due b ≡ d →
           CallBut k (turn_of b images state samples) (turn_of b images state' samples')
-      due q (At j) e =
+      due q (Some j) e =
           let lt = next-below b j e in
           let le = leb-true 260 (length state) q in
           let r = run-but j lt le samples samples' many many' (same j lt) in
           rw (
-            turn-done b images state samples q (le-leb 256 (length samples) many) (At j) e,
-            turn-done b images state' samples' (rw (sym h.size) q) (le-leb 256 (length samples') many') (At j) e,
+            turn-done b images state samples q (le-leb 256 (length samples) many) (Some j) e,
+            turn-done b images state' samples' (rw (sym h.size) q) (le-leb 256 (length samples') many') (Some j) e,
           )
           (record {
             answer = ap (λ (o : Outcome ℕ). accepted (took j o)) r.answer;
@@ -369,10 +368,10 @@ module _ (k : ℕ) (b : Board) (images : List ℕ) (state state' : List ℤ) (h 
                 (run_length b images state samples j lt le)
                 (run_length b images state' samples' j lt (omega (arith, h.size))) h r.left;
           })
-      due q Nowhere e =
+      due q None e =
           rw (
-            turn-done b images state samples q (le-leb 256 (length samples) many) Nowhere e,
-            turn-done b images state' samples' (rw (sym h.size) q) (le-leb 256 (length samples') many') Nowhere e,
+            turn-done b images state samples q (le-leb 256 (length samples) many) None e,
+            turn-done b images state' samples' (rw (sym h.size) q) (le-leb 256 (length samples') many') None e,
           ) (record { answer = refl; board = refl; left = h })
 
       words : (t : Bool) → leb 260 (length state) ≡ t →

@@ -1,5 +1,5 @@
 -- Request k: parts compiled alone, then joined.
-use Rattle.std.specs.Prelude.{ℕ, ◌+◌, ◌≤◌, ◌<◌, List, [], ◌∷◌, ◌↔◌, ◌≡◌, ℤ, length, take}
+use Rattle.std.specs.Prelude.{Option, ℕ, ◌+◌, ◌≤◌, ◌<◌, List, [], ◌∷◌, ◌↔◌, ◌≡◌, ℤ, length, take}
 use Rattle.board.specs.Board.{place_words}
 use Rattle.board.specs.Events.{Event, load, Scene, load_by, after_event, after_events, Throughout, Untouched, own_cycles}
 use Rattle.board.specs.Calls.{NumberScene, FromLoad}
@@ -14,7 +14,6 @@ use Rattle.model.specs.Rules.Tail.{Bears}
 use Rattle.model.specs.Rules.Word.{AreBytes}
 use Rattle.model.specs.Says.Calls.{Call}
 use Rattle.model.specs.declared.Fault.{Fault}
-use Rattle.model.specs.declared.Found.{Found}
 use Rattle.theorems_calls.specs.Exactness.{size_of}
 use Rattle.theorems_joins.specs.Composed.{Composed}
 use Rattle.theorems_joins.specs.Join.{LinkedSatisfies, TextsLent, JoinLegal, JoinRefused}
@@ -82,7 +81,7 @@ pub record RequestK : Type 0 where
   pub join-accepted-exactly : (texts numbers links : List ℕ) (q : Pair) →
       (joined_pair_of texts numbers links ≡ accepted q) ↔ JoinLegal texts numbers links q
   -- Turned away by 1, 4, 27, then inside a part, which the refusal also names, then 31, then by the joined checks 4, 9, 14, 15.
-  pub join-refused-exactly : (texts numbers links : List ℕ) (k : Found) (f : Fault) →
+  pub join-refused-exactly : (texts numbers links : List ℕ) (k : Option ℕ) (f : Fault) →
       ((joined_pair_of texts numbers links ≡ refused f) × (part_named texts numbers ≡ k)) ↔ JoinRefused texts numbers links k f
   -- Signals are renumbered part after part, PUTs follow in part order, the smallest CAP stands for all, and a linked IN becomes
   -- an EQ of weight 0, with the IN's period, initial word and label, that reads its signal by NOW.

@@ -1,4 +1,5 @@
 -- The lines of the five reads in their one form. Assumes nothing.
+use Rattle.std.specs.Prelude.{Some, None}
 use Prim.Native.Nat.{ℕ, suc, ◌+◌, ◌*◌, ◌-◌, ◌≤◌, ◌<◌}
 use mathlib.Core.Bool.{Bool, true, false, cond, not, ◌&&◌, ◌||◌, beq, false≢true, and-eq-true_iff}
 use mathlib.Core.Logic.{◌↔◌}
@@ -11,7 +12,6 @@ use lib.Dec.{leb, eqb}
 use Rattle.model.specs.Says.Feasible.{Between, PeriodRule, Line}
 use Rattle.model.specs.Rules.Reads.{Rate, between, line, settle, share, ordered, run_cycle, writer_first}
 use Rattle.model.specs.Rules.Search.{first_below}
-use Rattle.model.specs.declared.Found.TheVariants.{At, Nowhere}
 use Rattle.model.specs.declared.Index.{Index}
 use Rattle.model.specs.declared.Index.TheVariants.{Fixed, Open}
 use Rattle.model.specs.declared.Kind.{Kind}
@@ -65,10 +65,10 @@ module _ (w r : Timing) (bw : w.phase < 256) (br : r.phase < 256) where
   found-is kind n Open = λ j. first_below n (λ i. meets-line kind i j)
 
 -- The line holds at the index found.
-pub index-line : (kind : Kind) (w r : Rate) (n i : ℕ) (index : Index) → index_by kind w r n index ≡ At i → Line kind w r i
+pub index-line : (kind : Kind) (w r : Rate) (n i : ℕ) (index : Index) → index_by kind w r n index ≡ Some i → Line kind w r i
 index-line kind w r n i (Fixed k) e = go (line kind w r k) refl e
   where
-    go : (b : Bool) → line kind w r k ≡ b → cond b (At k) Nowhere ≡ At i → Line kind w r i
+    go : (b : Bool) → line kind w r k ≡ b → cond b (Some k) None ≡ Some i → Line kind w r i
     go true t q = let z : k ≡ i = cc in rw z at (line-true kind w r k t)
     go false t q = let z : ◌≡◌ {A = ℕ} 0 1 = cc in absurd (omega arith)
 index-line kind w r n i Open e = (settle-line kind w r n i e).1

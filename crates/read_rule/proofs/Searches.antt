@@ -1,4 +1,5 @@
 -- Laws of a search from an index on, and of products of small numbers. Assumes nothing.
+use Rattle.std.specs.Prelude.{Some, None}
 use mathlib.Core.Path.{◌≡◌, refl, sym, ap, ◌∙◌}
 use mathlib.Core.Bool.{Bool, true, false, cond}
 use Prim.Native.Nat.{ℕ, zero, suc, ◌+◌, ◌*◌, ◌-◌, ◌<◌, ◌≤◌}
@@ -8,7 +9,6 @@ use native.Mathlib.Numerals.{add-one}
 use native.Mathlib.Omega.{arith}
 use Rattle.model.specs.Rules.Reads.{Rate, line, line_holds}
 use Rattle.model.specs.Rules.Search.{first_from, is_found}
-use Rattle.model.specs.declared.Found.TheVariants.{At, Nowhere}
 use Rattle.model.specs.declared.Index.{Index}
 use Rattle.model.specs.declared.Index.TheVariants.{Fixed, Open}
 use Rattle.model.specs.declared.Kind.{Kind}
@@ -18,11 +18,11 @@ use Rattle.read_rule.specs.Reads.{index_by}
 more : (i n : ℕ) → i < n → n - i ≡ suc (n - (i + 1))
 more i n h = omega arith
 
-pub search-none : (test : ℕ → Bool) (i n : ℕ) → n ≤ i → first_from i (n - i) test ≡ Nowhere
+pub search-none : (test : ℕ → Bool) (i n : ℕ) → n ≤ i → first_from i (n - i) test ≡ None
 unfolding first_from
 search-none test i n h = let e : n - i ≡ 0 = omega arith in rw e
 
-pub search-here : (test : ℕ → Bool) (i n : ℕ) → i < n → test i ≡ true → first_from i (n - i) test ≡ At i
+pub search-here : (test : ℕ → Bool) (i n : ℕ) → i < n → test i ≡ true → first_from i (n - i) test ≡ Some i
 unfolding first_from
 search-here test i n h t = rw (more i n h, t, first_from)
 
@@ -41,17 +41,17 @@ search-from test n (suc i) h = search-from test n i (λ k l. h k (omega arith)) 
     go (no l) = search-none test i n (omega arith) ∙ sym (search-none test (suc i) n (omega arith))
 
 -- One candidate.
-pub search-one : (test : ℕ → Bool) (i : ℕ) → first_from i (i + 1 - i) test ≡ cond (test i) (At i) Nowhere
+pub search-one : (test : ℕ → Bool) (i : ℕ) → first_from i (i + 1 - i) test ≡ cond (test i) (Some i) None
 unfolding first_from
 search-one test i = let e : i + 1 - i ≡ 1 = omega arith in rw e (go (test i))
   where
-    go : (b : Bool) → elim b [ true ↦ At i | false ↦ Nowhere ] ≡ cond b (At i) Nowhere
+    go : (b : Bool) → elim b [ true ↦ Some i | false ↦ None ] ≡ cond b (Some i) None
     go true = refl
     go false = refl
 
 -- What is found is below the end.
-pub search-below : (test : ℕ → Bool) (from to i : ℕ) → first_from from (to - from) test ≡ At i → i < to
-search-below test from to i e = let h : IsFirst from (to - from) test (At i) = rw e at (from_first from (to - from) test) in
+pub search-below : (test : ℕ → Bool) (from to i : ℕ) → first_from from (to - from) test ≡ Some i → i < to
+search-below test from to i e = let h : IsFirst from (to - from) test (Some i) = rw e at (from_first from (to - from) test) in
     omega arith
 
 -- A product of small numbers.
@@ -63,7 +63,7 @@ pub found-holds : (kind : Kind) (w r : Rate) (n : ℕ) (index : Index) →
     is_found (index_by kind w r n index) ≡ line_holds kind w r n index
 found-holds kind w r n (Fixed i) = go (line kind w r i)
   where
-    go : (b : Bool) → is_found (cond b (At i) Nowhere) ≡ b
+    go : (b : Bool) → is_found (cond b (Some i) None) ≡ b
     go true = refl
     go false = refl
 found-holds kind w r n Open = refl

@@ -1,10 +1,8 @@
 -- One form for the lines of the five reads.
-use Rattle.std.specs.Prelude.{ℕ, ◌+◌, ◌*◌, ◌-◌, ◌≤◌, ◌<◌, Bool, true, false, cond, ◌≡◌}
+use Rattle.std.specs.Prelude.{Option, Some, None, ℕ, ◌+◌, ◌*◌, ◌-◌, ◌≤◌, ◌<◌, Bool, true, false, cond, ◌≡◌}
 use Rattle.model.specs.Says.Feasible.{PeriodRule}
 use Rattle.model.specs.Rules.Reads.{between}
 use Rattle.model.specs.Rules.Search.{first_from, first_below}
-use Rattle.model.specs.declared.Found.{Found}
-use Rattle.model.specs.declared.Found.TheVariants.{At, Nowhere}
 use Rattle.model.specs.declared.Index.{Index}
 use Rattle.model.specs.declared.Index.TheVariants.{Fixed, Open}
 use Rattle.model.specs.declared.Kind.{Kind}
@@ -81,8 +79,8 @@ unfoldable pub meets_at : Line → ℕ → Bool
 meets_at l i = between l.cycle (number_at l i) (l.cycle + l.step)
 
 -- The index of a read by its line.
-abbrev pub found_on : Line → ℕ → Index → Found
-found_on l n (Fixed i) = cond (meets_at l i) (At i) Nowhere
+abbrev pub found_on : Line → ℕ → Index → Option ℕ
+found_on l n (Fixed i) = cond (meets_at l i) (Some i) None
 found_on l n Open = first_below n (meets_at l)
 
 -- A search through the candidates finds it.

@@ -1,9 +1,7 @@
 -- One read, by the rates of the signal read and of the reader.
-use Rattle.std.specs.Prelude.{ℕ, ◌<◌, Bool, true, false, cond, ◌&&◌, ◌↔◌, ◌≡◌}
+use Rattle.std.specs.Prelude.{Option, Some, None, ℕ, ◌<◌, Bool, true, false, cond, ◌&&◌, ◌↔◌, ◌≡◌}
 use Rattle.model.specs.Says.Feasible.{PeriodRule, Between}
 use Rattle.model.specs.Rules.Reads.{Rate, line, settle, line_holds, ordered}
-use Rattle.model.specs.declared.Found.{Found}
-use Rattle.model.specs.declared.Found.TheVariants.{At, Nowhere}
 use Rattle.model.specs.declared.Index.{Index}
 use Rattle.model.specs.declared.Index.TheVariants.{Fixed, Open}
 use Rattle.model.specs.declared.Kind.{Kind}
@@ -15,11 +13,11 @@ abbrev pub rate_in : Timing → Rate
 rate_in t = record { period = t.period; phase = t.phase }
 
 -- The index of a read whose line holds.
-abbrev pub index_by : Kind → Rate → Rate → ℕ → Index → Found
-index_by kind w r n (Fixed i) = cond (line kind w r i) (At i) Nowhere
+abbrev pub index_by : Kind → Rate → Rate → ℕ → Index → Option ℕ
+index_by kind w r n (Fixed i) = cond (line kind w r i) (Some i) None
 index_by kind w r n Open = settle kind w r n
 
-unfoldable pub index_found : Kind → Sampled → Rate → Rate → Found
+unfoldable pub index_found : Kind → Sampled → Rate → Rate → Option ℕ
 index_found kind sampled w r = index_by kind w r sampled.factor sampled.index
 
 -- A read is met if its line and its order both hold.

@@ -17,7 +17,7 @@ ghost use Rattle.read_rule.specs.Lines.{
 };
 ghost use Rattle.read_rule.specs.Reads.{rate_in, index_found, met_by, MetIn};
 
-use model::{Found, Index, Kind, Sampled};
+use model::{Index, Kind, Sampled};
 
 // A signal's period and phase.
 #[derive(Clone, Copy)]
@@ -193,17 +193,17 @@ fn candidates_of(line: Line, sampled: Sampled) -> Candidates
 }
 
 // The first candidate that meets its line, or none.
-fn settle(line: Line, from: usize, to: usize) -> Found
+fn settle(line: Line, from: usize, to: usize) -> Option<usize>
     requires { SmallLine line × (to ≤ 256) }
     ensures { result ≡ first_from from (to - from) (meets_at line) }
 {
     let mut i = from;
     let settled = loop {
         if to <= i {
-            break Found::Nowhere;
+            break None;
         }
         if meets(line, i) {
-            break Found::At(i);
+            break Some(i);
         }
         i = i + 1;
     };
@@ -211,7 +211,7 @@ fn settle(line: Line, from: usize, to: usize) -> Found
 }
 
 // The index of a read whose line holds: its own, or the one settled.
-pub fn find_index(kind: Kind, sampled: Sampled, w: Timing, r: Timing) -> Found
+pub fn find_index(kind: Kind, sampled: Sampled, w: Timing, r: Timing) -> Option<usize>
     ensures { result ≡ index_found kind sampled (rate_in w) (rate_in r) }
 {
     let line = line_of(kind, w, r);
@@ -226,7 +226,7 @@ pub fn is_met(kind: Kind, sampled: Sampled, w: Timing, r: Timing, before: bool) 
     let line = line_of(kind, w, r);
     let among = candidates_of(line, sampled);
     let found = settle(line, among.from, among.to);
-    let Found::At(i) = found else {
+    let Some(i) = found else {
         return false;
     };
     let number = number_at(line, i);

@@ -1,4 +1,5 @@
 -- The rows by rising low, found by following their edges, and their bytes one after the other. Assumes nothing.
+use Rattle.std.specs.Prelude.{Option, Some, None}
 use mathlib.Core.Path.{◌≡◌, refl, sym, ap, ap₂, ◌∙◌}
 use mathlib.Core.Bool.{Bool, true, true≢false, and-eq-true_iff}
 use mathlib.Core.List.{List, [], ◌∷◌, ◌++◌, append_assoc, append-nil}
@@ -11,8 +12,6 @@ use lib.Seq.{sets, take-suc, take-length, length-take-le}
 use lib.Signed.{le_z}
 use Rattle.model.specs.Rules.Search.{found_or, join_from, all_below}
 use Rattle.model.specs.Rules.Word.{eq_z, word_bytes, four_bytes}
-use Rattle.model.specs.declared.Found.{Found}
-use Rattle.model.specs.declared.Found.TheVariants.{At, Nowhere}
 use Rattle.model.proofs.Pairs.Decide.{is-first, all_true}
 use Rattle.model.specs.Rules.Cover.{starting_at, edge, chained}
 use Rattle.model.specs.Rules.Table.{Row, contains, row_at, row_from, by_low, row_bytes, table_bytes}
@@ -55,12 +54,12 @@ module _ (rows : List Row) (up : AllUpright rows) (c : Covers rows) where
       starts : (row_at rows m.0).low ≡ z
       starts = ap (λ (r : Row). r.low) m.2 ∙ starts-at i l
 
-      go : (f : Found) → starting_at rows z ≡ f → n ≡ found_or 0 f → (n < length rows) × (row_at rows n ≡ row_at (by_low rows) i)
-      go Nowhere q e =
-          absurd (true≢false (sym (true-eq_z (row_at rows m.0).low z starts) ∙ is-first (length rows) test Nowhere q m.0
+      go : (f : Option ℕ) → starting_at rows z ≡ f → n ≡ found_or 0 f → (n < length rows) × (row_at rows n ≡ row_at (by_low rows) i)
+      go None q e =
+          absurd (true≢false (sym (true-eq_z (row_at rows m.0).low z starts) ∙ is-first (length rows) test None q m.0
           (omega arith) (omega (arith, m.1))))
-      go (At k) q e =
-          let h = is-first (length rows) test (At k) q in
+      go (Some k) q e =
+          let h = is-first (length rows) test (Some k) q in
           let lk : k < length rows = omega arith in
           let lows : (row_at rows k).low ≡ (row_at rows m.0).low = eq_z-true (row_at rows k).low z h.2 ∙ sym starts in
           let w = (row_at rows m.0).low in

@@ -12,8 +12,7 @@ ghost use Rattle.model.specs.Rules.Table.{table_word, area_rows, rows_from, row_
 ghost use Rattle.model.specs.Says.Rows.{AllUpright, Covers};
 ghost use Rattle.rows.specs.Rows.{text_row, text_rows, Placed};
 
-use basics::Judged;
-use model::{Found, refusals};
+use model::{Fault, Refusal};
 
 // A word in a type that has one more.
 fn long(w: i32) -> i64
@@ -44,12 +43,10 @@ pub fn look_up(area: &[u8], w: i32) -> i32
 {
     let count = basics::from_byte(area[0]);
     let mut below: usize = 0;
-    let mut i: usize = 0;
-    while i < count {
+    for i in 0..count {
         let at = 1 + 12 * i;
         let high = word::word_at(area, at + 4);
         below = below + count_below(high, w);
-        i = i + 1;
     }
     if below < count {
         let at = 1 + 12 * below;
@@ -64,8 +61,7 @@ fn chain_ok(image: &[u8], start: usize, count: usize) -> bool
     ensures { result ≡ chained (rows_from image.now start count) }
 {
     let mut edge: i64 = -2147483648;
-    let mut i: usize = 0;
-    while i < count {
+    for i in 0..count {
         let at = start + 12 * i;
         let low = word::word_at(image, at);
         let high = word::word_at(image, at + 4);
@@ -76,7 +72,6 @@ fn chain_ok(image: &[u8], start: usize, count: usize) -> bool
             return false;
         }
         edge = after(high);
-        i = i + 1;
     }
     edge == 2147483648
 }
@@ -148,45 +143,39 @@ fn apart_from_earlier(text: &[u8], offsets: &[u16; 32], n: usize) -> bool
     ensures { result ≡ all_below n (λ m. apart (text_row text.now offsets.now m)
         (text_row text.now offsets.now n)) }
 {
-    let mut m: usize = 0;
-    while m < n {
+    for m in 0..n {
         if !are_apart(text, offsets, m, n) {
             return false;
         }
-        m = m + 1;
     }
     true
 }
 
 // The first row that meets an earlier one.
-fn first_meeting(text: &[u8], offsets: &[u16; 32], count: usize) -> Found
+fn first_meeting(text: &[u8], offsets: &[u16; 32], count: usize) -> Option<usize>
     requires { Placed text.now offsets.now count }
     ensures { result ≡ first_below count (meets_earlier (text_rows text.now offsets.now count)) }
 {
-    let mut n: usize = 0;
-    while n < count {
+    for n in 0..count {
         if !apart_from_earlier(text, offsets, n) {
-            return Found::At(n);
+            return Some(n);
         }
-        n = n + 1;
     }
-    Found::Nowhere
+    None
 }
 
 // The first row that starts at an edge.
-fn find_start(text: &[u8], offsets: &[u16; 32], count: usize, edge: i64) -> Found
+fn find_start(text: &[u8], offsets: &[u16; 32], count: usize, edge: i64) -> Option<usize>
     requires { Placed text.now offsets.now count }
     ensures { result ≡ starting_at (text_rows text.now offsets.now count) edge }
 {
-    let mut n: usize = 0;
-    while n < count {
+    for n in 0..count {
         let low = low_of(text, offsets, n);
         if long(low) == edge {
-            return Found::At(n);
+            return Some(n);
         }
-        n = n + 1;
     }
-    Found::Nowhere
+    None
 }
 
 fn starts(text: &[u8], offsets: &[u16; 32], count: usize, edge: i64) -> bool
@@ -195,8 +184,8 @@ fn starts(text: &[u8], offsets: &[u16; 32], count: usize, edge: i64) -> bool
 {
     let found = find_start(text, offsets, count, edge);
     match found {
-        Found::At(n) => true,
-        Found::Nowhere => false,
+        Some(n) => true,
+        None => false,
     }
 }
 
@@ -206,8 +195,8 @@ fn start_index(text: &[u8], offsets: &[u16; 32], count: usize, edge: i64) -> usi
 {
     let found = find_start(text, offsets, count, edge);
     match found {
-        Found::At(n) => n,
-        Found::Nowhere => 0,
+        Some(n) => n,
+        None => 0,
     }
 }
 
@@ -219,12 +208,10 @@ fn no_gap(text: &[u8], offsets: &[u16; 32], count: usize) -> bool
     if !starts(text, offsets, count, -2147483648) {
         return false;
     }
-    let mut n: usize = 0;
-    while n < count {
+    for n in 0..count {
         if !continued(text, offsets, count, n) {
             return false;
         }
-        n = n + 1;
     }
     true
 }
@@ -243,18 +230,18 @@ fn continued(text: &[u8], offsets: &[u16; 32], count: usize, n: usize) -> bool
 }
 
 // 29 at the first row that meets an earlier one, 30 where a word lies in no row.
-pub fn check_rows(text: &[u8], offsets: &[u16; 32], count: usize) -> Judged
+pub fn check_rows(text: &[u8], offsets: &[u16; 32], count: usize) -> Result<(), Fault>
     requires { Placed text.now offsets.now count }
     ensures { result ≡ judgement_of (covering (text_rows text.now offsets.now count)) }
 {
     let found = first_meeting(text, offsets, count);
     match found {
-        Found::At(n) => basics::refuse(refusals::WORD_IN_TWO_ROWS, offset_of(offsets, n)),
-        Found::Nowhere => {
+        Some(n) => basics::refuse(Refusal::WordInTwoRows, offset_of(offsets, n)),
+        None => {
             if no_gap(text, offsets, count) {
-                Judged::Fine
+                Ok(())
             } else {
-                basics::refuse(refusals::WORD_IN_NO_ROW, 0)
+                basics::refuse(Refusal::WordInNoRow, 0)
             }
         }
     }
@@ -279,11 +266,9 @@ pub fn emit_rows(text: &[u8], offsets: &[u16; 32], count: usize, out: &mut [u8],
 {
     out[to] = (count % 256) as u8;
     let mut edge: i64 = -2147483648;
-    let mut i: usize = 0;
-    while i < count {
+    for i in 0..count {
         let n = start_index(text, offsets, count, edge);
         put_row(text, offset_of(offsets, n) + 1, out, to + 1 + 12 * i);
         edge = after(high_of(text, offsets, n));
-        i = i + 1;
     }
 }

@@ -46,7 +46,8 @@ pub struct Run {
 }
 
 // Runs the code of signal `own`, in an image of n signals with this table. A leaf and the operator or STORE that follows it are
-// run in one turn, which counts 2: its word is not pushed. All operators are as wide as ADD.
+// run in one turn, which counts 2: its word is not pushed. All operators are as wide as ADD. A `while`: how far a turn goes is known
+// only when the command is read.
 pub fn run_code(code: &[u8], table: &[u8], n: u8, own: u8, state: &[i32], samples: &[i32]) -> Run
     requires { (code_ok (ltb 0 (byte_at table.now 0)) code.now n own ≡ true) × (n < length state.now) ×
         (n ≤ length samples.now) × (own < n) × (length code.now ≤ 65535) × (area_ok table.now 0 ≡ true) }

@@ -13,11 +13,8 @@ pub fn add_runs(sums: &mut [u32; 240], period: u8, phase: u8, weight: u16, hyper
     ensures { Raised (record { period = period; phase = phase }) weight hypercycle
         sums.old sums.new }
 {
-    let step = period as usize;
     let more = weight as u32;
-    let mut next = phase as usize;
-    while next < hypercycle {
-        sums[next] = sums[next] + more;
-        next = next + step;
+    for c in (phase as usize..hypercycle).step_by(period as usize) {
+        sums[c] += more;
     }
 }

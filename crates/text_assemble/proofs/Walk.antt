@@ -1,4 +1,5 @@
 -- Token after token: what is assembled so far, and what the rest is assembled to. Assumes nothing.
+use Rattle.std.specs.Prelude.{Some, None, Result, Ok, Err, IsOk}
 use Prim.Native.Nat.{ℕ, zero, suc, ◌+◌, ◌-◌, ◌*◌, ◌%◌, ◌/◌, ◌≤◌, ◌<◌}
 use mathlib.Core.List.{List, [], ◌∷◌, ◌++◌, append_assoc, append-nil}
 use mathlib.Core.Path.{◌≡◌, refl, sym, ap, ◌∙◌}
@@ -25,12 +26,9 @@ use Rattle.model.specs.Rules.TextForm.{
   assembly,
 }
 use Rattle.model.specs.Rules.Word.{byte_at}
-use Rattle.model.specs.declared.Yielded.{Yielded}
 use Rattle.model.specs.declared.Fault.{Fault}
-use Rattle.model.specs.declared.Found.TheVariants.{At, Nowhere}
 use Rattle.model.specs.declared.Operand.{Operand}
 use Rattle.model.specs.declared.Operand.TheVariants.{One, Two, Four, Signed, Index, Mode}
-use Rattle.basics.specs.declared.Judged.{Judged}
 use Rattle.model.proofs.Basics.Outcomes.{
   accepted≢refused,
   accepted-same,
@@ -46,17 +44,17 @@ use Rattle.text_keyword.specs.Cells.{pending_at}
 use Rattle.text_keyword.proofs.Rows.{pending-starts}
 use Rattle.text_token.specs.Scanning.{tokens_at, StartsAt, EndsAt}
 use Rattle.text_assemble.specs.declared.TokenRead.{TokenRead}
-use Rattle.text_assemble.specs.Assembled.{judged_read, read_of, ReadsAs}
+use Rattle.text_assemble.specs.Assembled.{read_of, ReadsAs}
 use Rattle.text_keyword.specs.Written.{length_answer, ended_answer, bytes_written, FitsIn}
 
 -- What a keyword and an operand are read as.
-pub keyword-read : (place : ℕ) (w : List ℕ) (i : ℕ) → spelled w keywords ≡ At i →
+pub keyword-read : (place : ℕ) (w : List ℕ) (i : ℕ) → spelled w keywords ≡ Some i →
     assembled_of [] (token place w) ≡
     accepted (record { bytes = (keyword_at keywords i).byte ∷ []; pending = (keyword_at keywords i).operands })
 unfolding assembled_of
 keyword-read place w i e = rw e refl
 
-pub keyword-refused : (place : ℕ) (w : List ℕ) → spelled w keywords ≡ Nowhere → assembled_of [] (token place w) ≡ refuse 40 place
+pub keyword-refused : (place : ℕ) (w : List ℕ) → spelled w keywords ≡ None → assembled_of [] (token place w) ≡ refuse 40 place
 unfolding assembled_of
 keyword-refused place w e = rw e refl
 
@@ -103,18 +101,9 @@ low-length (suc n) v = ap suc (low-length n (v / 256))
 abbrev pub read_piece : TokenRead → Assembled
 read_piece r = record { bytes = low_bytes r.size r.value; pending = pending_at r.next }
 
-pub read-fine : (r : TokenRead) → r.judged ≡ Judged.Fine → read_of r ≡ accepted (read_piece r)
-read-fine r e = ap (judged_read (read_piece r)) e
-
-pub read-refused : (r : TokenRead) (f : Fault) → r.judged ≡ Judged.Refused f → read_of r ≡ refused f
-read-refused r f e = ap (judged_read (read_piece r)) e
-
-pub read_is : (r : TokenRead) (x : Assembled) → read_of r ≡ accepted x → read_piece r ≡ x
-read_is r x e = go r.judged e
-  where
-    go : (j : Judged) → judged_read (read_piece r) j ≡ accepted x → read_piece r ≡ x
-    go Judged.Fine q = cc
-    go (Judged.Refused f) q = let z : ◌≡◌ {A = ℕ} 0 1 = cc in absurd (omega arith)
+pub read-ok : (r : Result TokenRead Fault) (x : Assembled) → read_of r ≡ accepted x → IsOk r
+read-ok (Ok t) x e = refl
+read-ok (Err f) x e = absurd (accepted≢refused _ x f e refl)
 
 module _ (text : List ℕ) where
   abbrev pub rest_of : ℕ → ℕ → Outcome (List ℕ)
@@ -192,17 +181,17 @@ module _ (text : List ℕ) where
       go : (os : List Operand) →
           length_answer (ended 41 (length text) os ▷ λ rest. accepted (done ++ rest)) ≡
           ended_answer (length done) (ended 41 (length text) os)
-      go [] = ap (λ (l : List ℕ). Yielded.Number (length l)) (append-nil done)
+      go [] = ap (λ (l : List ℕ). length_answer (accepted l)) (append-nil done)
       go (o ∷ os) = refl
 
   -- A rest that is accepted, token after token.
   pub rest-step : (start pending end : ℕ) (r : TokenRead) (rest : List ℕ) → EndsAt text start end →
-      ReadsAs (pending_at pending) start (take (end - start) (drop start text)) r → rest_of start pending ≡ accepted rest →
+      ReadsAs (pending_at pending) start (take (end - start) (drop start text)) (Ok r) → rest_of start pending ≡ accepted rest →
       (rest' : List ℕ) × Parts rest (low_bytes r.size r.value) rest' ×
       ((after : ℕ) → StartsAt text end after → rest_of after r.next ≡ accepted rest')
   rest-step start pending end r rest e h g =
       let a = then-accepted _ _ rest (sym (rest-by start pending end e) ∙ g) in
-      let x : read_piece r ≡ a.0 = read_is r a.0 (h.answer ∙ a.1) in
+      let x : read_piece r ≡ a.0 = accepted-same _ _ (h.answer ∙ a.1) in
       let b = then-accepted _ _ rest a.2 in
       let whole : a.0.bytes ++ b.0 ≡ rest = accepted-same _ _ b.2 in (
         b.0,
@@ -240,9 +229,9 @@ measured-starts text start s =
     }
 
 pub measured-next : (text : List ℕ) (start pending total end after : ℕ) (r : TokenRead) → Measured text start pending total →
-    EndsAt text start end → ReadsAs (pending_at pending) start (take (end - start) (drop start text)) r →
-    r.judged ≡ Judged.Fine → StartsAt text end after → Measured text after r.next (total + r.size)
-measured-next text start pending total end after r m e h fine s =
+    EndsAt text start end → ReadsAs (pending_at pending) start (take (end - start) (drop start text)) (Ok r) →
+    StartsAt text end after → Measured text after r.next (total + r.size)
+measured-next text start pending total end after r m e h s =
     record {
       bytes = m.bytes ++ low_bytes r.size r.value;
       size = length-append m.bytes _ ∙ sum m.size (low-length r.size r.value);
@@ -251,18 +240,17 @@ measured-next text start pending total end after r m e h fine s =
       begins = s.starts;
       going =
           going_next text start pending end e m.bytes (low_bytes r.size r.value) r.next after s
-          (sym h.answer ∙ read-fine r fine) m.going;
+          (sym h.answer) m.going;
     }
   where
     sum : {a b c d : ℕ} → a ≡ b → c ≡ d → a + c ≡ b + d
     sum p q = omega arith
 
-pub measured-refused : (text : List ℕ) (start pending total end : ℕ) (r : TokenRead) (f : Fault) →
+pub measured-refused : (text : List ℕ) (start pending total end : ℕ) (f : Fault) →
     Measured text start pending total →
-    EndsAt text start end → ReadsAs (pending_at pending) start (take (end - start) (drop start text)) r →
-    r.judged ≡ Judged.Refused f → assembly text ≡ refused f
-measured-refused text start pending total end r f m e h q =
-    going-refused text start pending end e m.bytes f (sym h.answer ∙ read-refused r f q) m.going
+    EndsAt text start end → ReadsAs (pending_at pending) start (take (end - start) (drop start text)) (Err f) →
+    assembly text ≡ refused f
+measured-refused text start pending total end f m e h = going-refused text start pending end e m.bytes f (sym h.answer) m.going
 
 pub measured-ends : (text : List ℕ) (start pending total : ℕ) → Measured text start pending total → length text ≤ start →
     length_answer (assembly text) ≡ ended_answer total (ended 41 (length text) (pending_at pending))
@@ -278,6 +266,13 @@ pub record Writing (text out₀ : List ℕ) (start pending : ℕ) (out : List �
   pub inside : start ≤ length text
   pub begins : start < length text → class_of (byte_at text start) ≡ other
 
+-- What is read of a text that is assembled is no refusal.
+pub writing-reads : (text out₀ : List ℕ) (start pending : ℕ) (out : List ℕ) (to end : ℕ) (r : Result TokenRead Fault) →
+    Writing text out₀ start pending out to → EndsAt text start end →
+    ReadsAs (pending_at pending) start (take (end - start) (drop start text)) r → IsOk r
+writing-reads text out₀ start pending out to end r m e h =
+    let a = then-accepted _ _ m.rest (sym (rest-by text start pending end e) ∙ m.going) in read-ok r a.0 (h.answer ∙ a.1)
+
 pub writing-starts : (text out : List ℕ) (start : ℕ) → FitsIn (assembly text) out → StartsAt text 0 start →
     Writing text out start 11 out 0
 writing-starts text out start f s =
@@ -291,7 +286,7 @@ writing-starts text out start f s =
 
 module _ (text out₀ : List ℕ) (start pending : ℕ) (out : List ℕ) (to end : ℕ) (r : TokenRead)
     (m : Writing text out₀ start pending out to)
-    (e : EndsAt text start end) (h : ReadsAs (pending_at pending) start (take (end - start) (drop start text)) r) where
+    (e : EndsAt text start end) (h : ReadsAs (pending_at pending) start (take (end - start) (drop start text)) (Ok r)) where
   abbrev step : (rest' : List ℕ) × Parts m.rest (low_bytes r.size r.value) rest' ×
       ((after : ℕ) → StartsAt text end after → rest_of text after r.next ≡ accepted rest')
   step = rest-step text start pending end r m.rest e h m.going

@@ -5,9 +5,7 @@ use Rattle.model.specs.Rules.Rewrite.{Command, of_declaration, of_operator, decl
 use Rattle.model.specs.Rules.Width.{in_expression, read_width}
 use Rattle.model.specs.Says.Written.{read_byte}
 use Rattle.model.specs.declared.Operator.{Operator}
-use Rattle.model.specs.declared.Operator.TheVariants as Operator
 use Rattle.text_convert.specs.declared.Piece.{Piece}
-use Rattle.text_convert.specs.declared.Piece.TheVariants as Piece
 
 -- The bytes of the text that a piece stands for, how many bytes it has, and which.
 abbrev pub width_in : Piece → ℕ

@@ -10,10 +10,10 @@ ghost use Rattle.model.specs.Says.Written.{read_byte};
 ghost use Rattle.model.specs.Rules.Writing.{Wrote};
 ghost use Rattle.text_convert.specs.Pieces.{width_in, new_length, operator_piece, piece_of, piece_at};
 
-use basics::Judged;
-use model::{Declaration, Kind, Operator, Width, Yielded, refusals};
+use model::{Declaration, Fault, Kind, Operator, Refusal};
 
-// What a command becomes: its bytes as they are, so many; or, for so many bytes, a byte and a signal.
+// What a command becomes: its bytes as they are, so many; or, for so many bytes, a byte and a signal. An enum of its own: both
+// cases are values.
 #[derive(Clone, Copy)]
 enum Piece {
     Keep(usize),
@@ -84,8 +84,8 @@ fn command_piece(text: &[u8], at: usize) -> Piece
     }
     let width = width::expression(text[at]);
     match width {
-        Width::Bytes(_) => operator_piece(text_command::operator_from(1, text, at)),
-        Width::Unlisted => {
+        Some(_) => operator_piece(text_command::operator_from(1, text, at)),
+        None => {
             let declaration = text_command::declaration_at(text, at);
             Piece::Keep(declaration_width(declaration))
         }
@@ -116,15 +116,8 @@ fn copy(text: &[u8], at: usize, n: usize, out: &mut [u8], to: usize) -> usize
     requires { (at + n ≤ length text.now) × (to + n ≤ length out.old) }
     ensures { Wrote out.old to (take n (drop at text.now)) out.new result }
 {
-    let mut end = to;
-    let mut i = at;
-    let mut left = n;
-    while 0 < left {
-        out[end] = text[i];
-        end = end + 1;
-        i = i + 1;
-        left = left - 1;
-    }
+    let end = to + n;
+    out[to..end].copy_from_slice(&text[at..at + n]);
     end
 }
 
@@ -149,14 +142,11 @@ fn rewritten_length(text: &[u8]) -> usize
 {
     let mut at: usize = 0;
     let mut total: usize = 0;
-    let mut left = text.len();
-    while 0 < left {
+    // A command takes a byte at least: as many turns as the text has bytes are enough.
+    for turn in 0..text.len() {
         let piece = command_piece(text, at);
-        let length = new_length(piece);
-        total = total + length;
-        let width = width_in(piece);
-        at = at + width;
-        left = left - 1;
+        total = total + new_length(piece);
+        at = at + width_in(piece);
     }
     total
 }
@@ -168,41 +158,34 @@ fn write(text: &[u8], out: &mut [u8]) -> usize
 {
     let mut at: usize = 0;
     let mut to: usize = 0;
-    let mut left = text.len();
-    while 0 < left {
+    for turn in 0..text.len() {
         let piece = command_piece(text, at);
         to = put(text, at, piece, out, to);
-        let width = width_in(piece);
-        at = at + width;
-        left = left - 1;
+        at = at + width_in(piece);
     }
     to
 }
 
 // Converts a program text that passes 1, with a table for the offsets of its reads: an entry for each two bytes.
-fn convert_with(program: &[u8], res: &mut [u8], reads: &mut [u16]) -> Yielded
+fn convert_with(program: &[u8], res: &mut [u8], reads: &mut [u16]) -> Result<usize, Fault>
     requires { (length program.now ≤ 8192) × (length program.now ≤ 2 * length reads.old) }
     ensures { Does (convert_of program.now res.old) (yielded_of result) res.new }
 {
-    let read = text_program::read_program(1, program, reads);
-    let judged = read.judged;
-    if let Judged::Refused(fault) = judged {
-        return Yielded::Refused(fault);
-    }
+    text_program::read_program(1, program, reads)?;
     let length = rewritten_length(program);
     if res.len() < length {
-        return basics::refuse_number(refusals::IMAGE_BUFFER_SHORT, length);
+        return basics::refuse(Refusal::ImageBufferShort, length);
     }
     let end = write(program, &mut res[..]);
-    Yielded::Number(end)
+    Ok(end)
 }
 
 // Converts a program text: its new length; 1 to 6 as the reader gives them with n = 1 allowed; or 17 where the buffer is shorter.
-pub fn convert(program: &[u8], res: &mut [u8]) -> Yielded
+pub fn convert(program: &[u8], res: &mut [u8]) -> Result<usize, Fault>
     ensures { Does (convert_of program.now res.old) (yielded_of result) res.new }
 {
     if 8192 < program.len() {
-        return basics::refuse_number(refusals::TEXT_TOO_LONG, 0);
+        return basics::refuse(Refusal::TextTooLong, 0);
     }
     let mut reads: [u16; 4096] = [0; 4096];
     convert_with(program, res, &mut reads)

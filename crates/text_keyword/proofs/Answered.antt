@@ -1,4 +1,5 @@
 -- What a call that writes a list of bytes answers and leaves, by its tests. Assumes nothing.
+use Rattle.std.specs.Prelude.{Ok, Err}
 use Prim.Native.Nat.{ℕ, ◌+◌, ◌≤◌, ◌<◌}
 use mathlib.Core.List.{List, ◌++◌}
 use mathlib.Core.Path.{◌≡◌, refl, sym, ap, ◌∙◌}
@@ -10,17 +11,15 @@ use Rattle.model.specs.Rules.Machine.{effect}
 use Rattle.model.specs.Rules.Outcome.{Outcome, accepted, refused, refuse, ◌▷◌, provided}
 use Rattle.model.specs.Rules.TextForm.{write_job}
 use Rattle.model.specs.Rules.Writing.{Wrote}
-use Rattle.model.specs.declared.Yielded.{Yielded}
-use Rattle.model.specs.declared.Yielded.TheVariants as Yielded
 use Rattle.model.specs.declared.Fault.{Fault}
 use Rattle.text_keyword.specs.Written.{length_answer}
 
 -- What a measured length tells.
-pub length-refused : (o : Outcome (List ℕ)) (f : Fault) → Yielded.Refused f ≡ length_answer o → o ≡ refused f
+pub length-refused : (o : Outcome (List ℕ)) (f : Fault) → Err f ≡ length_answer o → o ≡ refused f
 length-refused (accepted l) f e = let z : ◌≡◌ {A = ℕ} 0 1 = cc in absurd (omega arith)
 length-refused (refused g) f e = let z : f ≡ g = cc in ap refused (sym z)
 
-pub length-done : (o : Outcome (List ℕ)) (n : ℕ) → Yielded.Number n ≡ length_answer o → (l : List ℕ) × (o ≡ accepted l) ×
+pub length-done : (o : Outcome (List ℕ)) (n : ℕ) → Ok n ≡ length_answer o → (l : List ℕ) × (o ≡ accepted l) ×
     (length l ≡ n)
 length-done (accepted l) n e = let z : n ≡ length l = cc in (l, refl, sym z)
 length-done (refused g) n e = let z : ◌≡◌ {A = ℕ} 0 1 = cc in absurd (omega arith)

@@ -1,5 +1,7 @@
 -- A search row by row; letters up to a zero, compared one by one. Assumes nothing.
-use Prim.Native.Nat.{ℕ, suc, ◌+◌, ◌-◌, ◌≤◌, ◌<◌}
+use Rattle.std.specs.Prelude.{Option, Some, None}
+use Rattle.std.specs.Option.{MatchOption}
+use Prim.Native.Nat.{ℕ, zero, suc, ◌+◌, ◌-◌, ◌≤◌, ◌<◌}
 use mathlib.Core.Bool.{Bool, true, false}
 use mathlib.Core.List.{List, [], ◌∷◌}
 use mathlib.Core.Path.{◌≡◌, refl, sym, ap, ◌∙◌}
@@ -13,7 +15,6 @@ use lib.Seq.{drop-cons, take_all}
 use Rattle.model.specs.Rules.Search.{first_from, first_below}
 use Rattle.model.specs.Rules.TextForm.{same_bytes}
 use Rattle.model.specs.Rules.Word.{byte_at}
-use Rattle.model.specs.declared.Found.TheVariants.{At, Nowhere}
 use Rattle.text_keyword.specs.Cells.{letters_of}
 
 -- The part of a list from an offset on.
@@ -30,12 +31,12 @@ module _ (n : ℕ) (test : ℕ → Bool) where
   search-starts = let e : n - 0 ≡ n = omega arith in rw e refl
 
   by-test : (i : ℕ) (b : Bool) → test i ≡ b → (m : ℕ) →
-      first_from i (suc m) test ≡ elim b [ true ↦ At i | false ↦ first_from (suc i) m test ]
+      first_from i (suc m) test ≡ elim b [ true ↦ Some i | false ↦ first_from (suc i) m test ]
   unfolding first_from
   by-test i true e m = rw (e, first_from) refl
   by-test i false e m = rw (e, first_from) refl
 
-  pub search-found : (i : ℕ) → i < n → Searching i → test i ≡ true → At i ≡ first_below n test
+  pub search-found : (i : ℕ) → i < n → Searching i → test i ≡ true → Some i ≡ first_below n test
   search-found i lt s t =
       let e : n - i ≡ suc (n - (i + 1)) = omega arith in sym (by-test i true t (n - (i + 1))) ∙ rw (← e) s
 
@@ -45,9 +46,25 @@ module _ (n : ℕ) (test : ℕ → Bool) where
       let f : i + 1 ≡ suc i = add-one i in
       ap (λ (k : ℕ). first_from k (n - (i + 1)) test) f ∙ sym (by-test i false t (n - (i + 1))) ∙ rw (← e) s
 
-  pub search-ends : (i : ℕ) → n ≤ i → Searching i → Nowhere ≡ first_below n test
+  pub search-ends : (i : ℕ) → n ≤ i → Searching i → None ≡ first_below n test
   unfolding first_from
   search-ends i le s = let e : n - i ≡ 0 = omega arith in rw e at s
+
+-- What `find` gives over the numbers below n is what the search finds.
+search-to : (n : ℕ) (test : ℕ → Bool) (i : ℕ) → i ≤ n → ((k : ℕ) → k < i → test k ≡ false) → Searching n test i
+search-to n test zero le misses = search-starts n test
+search-to n test (suc i) le misses =
+    let e = search-next n test i (omega arith) (search-to n test i (omega arith) (λ k lt. misses k (omega arith)))
+    (misses i (omega arith)) in
+    rw (add-one i) at e
+
+pub first-found : (n : ℕ) (test : ℕ → Bool) (r : Option ℕ) →
+    MatchOption r ((k : ℕ) → 0 ≤ k → k < n → test k ≡ false)
+    (λ i. (0 ≤ i) × (i < n) × (test i ≡ true) × ((k : ℕ) → 0 ≤ k → k < i → test k ≡ false)) → r ≡ first_below n test
+first-found n test None h =
+    search-ends n test n (omega arith) (search-to n test n (omega arith) (λ k lt. h k (omega arith) lt))
+first-found n test (Some i) h =
+    search-found n test i h.1 (search-to n test i (omega arith) (λ k lt. h.3 k (omega arith) lt)) h.2
 
 -- Letters from i on.
 letters-zero : (c : ℕ) (cs : List ℕ) → c ≡ 0 → letters_of (c ∷ cs) ≡ []

@@ -1,4 +1,5 @@
 -- The rows of the table are the keywords and the names. Assumes nothing.
+use Rattle.std.specs.Prelude.{Option, Some}
 use Prim.Native.Nat.{ℕ, zero, suc, ◌+◌, ◌*◌, ◌≤◌, ◌<◌}
 use mathlib.Core.Bool.{Bool, true, false, cond, ◌&&◌}
 use mathlib.Core.List.{List, [], ◌∷◌, map}
@@ -13,8 +14,6 @@ use native.Mathlib.Numerals.{add-one}
 use Rattle.model.specs.Rules.Search.{first_from, first_below, all_below, table_from, table, join_from}
 use Rattle.model.specs.Rules.TextForm.{Keyword, keywords, names, keyword_at, same_bytes, spelled, coded}
 use Rattle.model.specs.Rules.Word.{byte_at}
-use Rattle.model.specs.declared.Found.{Found}
-use Rattle.model.specs.declared.Found.TheVariants.{At}
 use Rattle.model.specs.declared.Operand.{Operand}
 use Rattle.model.specs.declared.Operand.TheVariants.{One, Two, Four, Signed, Index, Mode}
 use Rattle.model.proofs.Basics.Tests.{never, both}
@@ -112,8 +111,8 @@ first-same : (n i : ℕ) (f g : ℕ → Bool) → ((k : ℕ) → i ≤ k → k <
 unfolding first_from
 first-same zero i f g h = refl
 first-same (suc n) i f g h =
-    ap (λ (b : Bool). elim b [ true ↦ At i | false ↦ first_from (suc i) n f ]) (h i (omega arith) (omega arith)) ∙
-    ap (λ (u : Found). elim (g i) [ true ↦ At i | false ↦ u ])
+    ap (λ (b : Bool). elim b [ true ↦ Some i | false ↦ first_from (suc i) n f ]) (h i (omega arith) (omega arith)) ∙
+    ap (λ (u : Option ℕ). elim (g i) [ true ↦ Some i | false ↦ u ])
     (first-same n (suc i) f g (λ k low high. h k (omega arith) (omega arith)))
 
 module _ (from n : ℕ) (ks : List Keyword) (size : n ≡ length ks) (is : (i : ℕ) → i < n → Row from ks i) where
@@ -162,28 +161,28 @@ names-inside Index = omega arith
 names-inside Mode = omega arith
 
 -- What is found is a name.
-pub name-found : (o : Operand) (w : List ℕ) (i : ℕ) → spelled w (names o) ≡ At i → i < names_count o
+pub name-found : (o : Operand) (w : List ℕ) (i : ℕ) → spelled w (names o) ≡ Some i → i < names_count o
 unfolding spelled
 name-found o w i e =
-    let h = is-first (length (names o)) (λ i. same_bytes (keyword_at (names o) i).spelling w) (At i) e in
+    let h = is-first (length (names o)) (λ i. same_bytes (keyword_at (names o) i).spelling w) (Some i) e in
     omega (arith, h.1, names-count o)
 
-pub keyword-found : (w : List ℕ) (i : ℕ) → spelled w keywords ≡ At i → i < command_rows
+pub keyword-found : (w : List ℕ) (i : ℕ) → spelled w keywords ≡ Some i → i < command_rows
 unfolding spelled
 keyword-found w i e =
-    let h = is-first (length keywords) (λ i. same_bytes (keyword_at keywords i).spelling w) (At i) e in
+    let h = is-first (length keywords) (λ i. same_bytes (keyword_at keywords i).spelling w) (Some i) e in
     omega (arith, h.1, keywords-count)
 
-pub name-coded : (o : Operand) (b i : ℕ) → coded b (names o) ≡ At i → i < names_count o
+pub name-coded : (o : Operand) (b i : ℕ) → coded b (names o) ≡ Some i → i < names_count o
 unfolding coded
 name-coded o b i e =
-    let h = is-first (length (names o)) (λ i. eqb (keyword_at (names o) i).byte b) (At i) e in
+    let h = is-first (length (names o)) (λ i. eqb (keyword_at (names o) i).byte b) (Some i) e in
     omega (arith, h.1, names-count o)
 
-pub keyword-coded : (b i : ℕ) → coded b keywords ≡ At i → i < command_rows
+pub keyword-coded : (b i : ℕ) → coded b keywords ≡ Some i → i < command_rows
 unfolding coded
 keyword-coded b i e =
-    let h = is-first (length keywords) (λ i. eqb (keyword_at keywords i).byte b) (At i) e in
+    let h = is-first (length keywords) (λ i. eqb (keyword_at keywords i).byte b) (Some i) e in
     omega (arith, h.1, keywords-count)
 
 -- A search of a table that is this one, from an operand's names on.

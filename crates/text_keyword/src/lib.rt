@@ -9,11 +9,12 @@ ghost use Rattle.text_keyword.specs.Cells.{cells, letters_of, spelling_at, byte_
 ghost use Rattle.text_keyword.specs.Cells.{operand_by, names_from, names_count, pending_at};
 ghost use Rattle.text_keyword.specs.Written.{ended_answer};
 
-use model::{Found, Operand, Yielded};
+use model::{Fault, Operand};
 
+// Rows of bytes and no structs: 450 bytes that are never copied, and one offset in them says which operands are to follow.
 // The commands, a row each, then the names of operands: 9 letters with zeros after the last, whether it starts a line, its byte,
 // its operands by their numbers (`operand_by`) with zeros after the last.
-const TABLE: [u8; 450] = *b"\
+static TABLE: [u8; 450] = *b"\
     END\0\0\0\0\0\0\x01\x00\x00\x00\x00\x00\
     IN\0\0\0\0\0\0\0\x01\x10\x01\x04\x00\x00\
     EQ\0\0\0\0\0\0\0\x01\x11\x01\x04\x02\x00\
@@ -49,70 +50,54 @@ const TABLE: [u8; 450] = *b"\
 // How many rows are commands; the names of operands follow them.
 pub const COMMANDS: usize = 27;
 
-pub fn table() -> [u8; 450]
-    ensures { result ≡ cells }
+pub fn table() -> &'static [u8]
+    ensures { result.now ≡ cells }
 {
-    TABLE
+    &TABLE
 }
 
 // The byte at i, or 0 past the end.
 pub fn cell(s: &[u8], i: usize) -> u8
     ensures { result ≡ byte_at s.now i }
 {
-    if i < s.len() {
-        return s[i];
-    }
-    0
+    s.get(i).copied().unwrap_or(0)
 }
 
 // Whether the letters, up to a zero, are the token.
 fn is_spelled(letters: &[u8], token: &[u8]) -> bool
     ensures { result ≡ same_bytes (letters_of letters.now) token.now }
 {
-    let mut i: usize = 0;
-    while i < token.len() {
+    for i in 0..token.len() {
         let c = cell(letters, i);
-        if c == 0 {
+        if c == 0 || c != token[i] {
             return false;
         }
-        if c != token[i] {
-            return false;
-        }
-        i = i + 1;
     }
-    cell(letters, i) == 0
+    cell(letters, token.len()) == 0
+}
+
+// Whether the spelling of a row is the token.
+fn is_row_spelled(table: &[u8], row: usize, token: &[u8]) -> bool
+    requires { 15 * row ≤ length table.now }
+    ensures { result ≡ same_bytes (spelling_at table.now row) token.now }
+{
+    is_spelled(&table[15 * row..], token)
 }
 
 // The first of `count` rows from `from` on with this spelling, counted from 0.
-pub fn find_spelling(table: &[u8], from: usize, count: usize, token: &[u8]) -> Found
+pub fn find_spelling(table: &[u8], from: usize, count: usize, token: &[u8]) -> Option<usize>
     requires { 15 * (from + count) ≤ length table.now }
     ensures { result ≡ first_below count (λ i. same_bytes (spelling_at table.now (from + i)) token.now) }
 {
-    let mut i: usize = 0;
-    while i < count {
-        let at = 15 * (from + i);
-        if is_spelled(&table[at..], token) {
-            return Found::At(i);
-        }
-        i = i + 1;
-    }
-    Found::Nowhere
+    (0..count).find(|i| is_row_spelled(table, from + *i, token))
 }
 
 // The first of `count` rows from `from` on with this byte.
-pub fn find_byte(table: &[u8], from: usize, count: usize, byte: u8) -> Found
+pub fn find_byte(table: &[u8], from: usize, count: usize, byte: u8) -> Option<usize>
     requires { 15 * (from + count) ≤ length table.now }
     ensures { result ≡ first_below count (λ i. eqb (byte_of table.now (from + i)) byte) }
 {
-    let mut i: usize = 0;
-    while i < count {
-        let at = 15 * (from + i) + 10;
-        if table[at] == byte {
-            return Found::At(i);
-        }
-        i = i + 1;
-    }
-    Found::Nowhere
+    (0..count).find(|i| table[15 * (from + *i) + 10] == byte)
 }
 
 // The byte of a row.
@@ -144,12 +129,9 @@ pub fn size(operand: Operand) -> usize
     ensures { result ≡ size operand }
 {
     match operand {
-        Operand::One => 1,
+        Operand::One | Operand::Index | Operand::Mode => 1,
         Operand::Two => 2,
-        Operand::Four => 4,
-        Operand::Signed => 4,
-        Operand::Index => 1,
-        Operand::Mode => 1,
+        Operand::Four | Operand::Signed => 4,
     }
 }
 
@@ -158,11 +140,7 @@ pub fn names_from(operand: Operand) -> usize
     ensures { result ≡ names_from operand }
 {
     match operand {
-        Operand::One => COMMANDS,
-        Operand::Two => COMMANDS,
-        Operand::Four => COMMANDS,
-        Operand::Signed => COMMANDS,
-        Operand::Index => COMMANDS,
+        Operand::One | Operand::Two | Operand::Four | Operand::Signed | Operand::Index => COMMANDS,
         Operand::Mode => COMMANDS + 1,
     }
 }
@@ -171,10 +149,7 @@ pub fn names_count(operand: Operand) -> usize
     ensures { result ≡ names_count operand }
 {
     match operand {
-        Operand::One => 0,
-        Operand::Two => 0,
-        Operand::Four => 0,
-        Operand::Signed => 0,
+        Operand::One | Operand::Two | Operand::Four | Operand::Signed => 0,
         Operand::Index => 1,
         Operand::Mode => 2,
     }
@@ -183,24 +158,15 @@ pub fn names_count(operand: Operand) -> usize
 pub fn is_signed(operand: Operand) -> bool
     ensures { result ≡ is_signed operand }
 {
-    match operand {
-        Operand::One => false,
-        Operand::Two => false,
-        Operand::Four => false,
-        Operand::Signed => true,
-        Operand::Index => false,
-        Operand::Mode => false,
-    }
+    matches!(operand, Operand::Signed)
 }
 
 // The answer where a text or bytes end: no operand is to follow.
-pub fn ended_length(table: &[u8], pending: usize, number: u8, place: usize, total: usize) -> Yielded
-    requires { table.now ≡ cells }
+pub fn ended_length(pending: usize, number: u8, place: usize, total: usize) -> Result<usize, Fault>
     ensures { result ≡ ended_answer total (ended number place (pending_at pending)) }
 {
-    let operand = cell(table, pending);
-    if operand == 0 {
-        return Yielded::Number(total);
+    if cell(table(), pending) == 0 {
+        return Ok(total);
     }
     basics::refuse_number(number, place)
 }

@@ -1,4 +1,5 @@
 -- Token after token: what is listed so far, and what the rest is listed as. Assumes nothing.
+use Rattle.std.specs.Prelude.{Option, Some, None, Result, Ok, Err, IsOk}
 use Prim.Native.Nat.{ℕ, zero, suc, ◌+◌, ◌-◌, ◌*◌, ◌^◌, ◌≤◌, ◌<◌}
 use mathlib.Core.Bool.{Bool, true, false, cond}
 use mathlib.Core.List.{List, [], ◌∷◌, ◌++◌, append_assoc, append-nil}
@@ -34,10 +35,7 @@ use Rattle.model.specs.Rules.TextForm.{
   listing,
 }
 use Rattle.model.specs.Rules.Word.{word_of, byte_at, AreBytes}
-use Rattle.model.specs.declared.Yielded.{Yielded}
 use Rattle.model.specs.declared.Fault.{Fault}
-use Rattle.model.specs.declared.Found.{Found}
-use Rattle.model.specs.declared.Found.TheVariants.{At, Nowhere}
 use Rattle.model.specs.declared.Operand.{Operand}
 use Rattle.model.specs.declared.Operand.TheVariants.{One, Two, Four, Signed, Index, Mode}
 use Rattle.model.proofs.Basics.Outcomes.{
@@ -52,7 +50,6 @@ use Rattle.model.proofs.Basics.Outcomes.{
 use Rattle.model.proofs.Basics.Left.{Left, Parts, starts, room, turn, wrote-size}
 use Rattle.model.proofs.Bench.Decimals.{natural-length, decimal-length}
 use Rattle.model.proofs.Pairs.Decide.{is-first, all_true}
-use Rattle.basics.specs.declared.Judged.{Judged}
 use Rattle.text_keyword.specs.Cells.{pending_at}
 use Rattle.text_keyword.specs.Written.{length_answer, ended_answer, bytes_written, FitsIn}
 use Rattle.text_keyword.proofs.Rows.{pending-starts}
@@ -93,18 +90,18 @@ number_short : (b : Bool) (v : ℕ) → v < 2 ^ 32 → length (cond b (decimal (
 number_short true v lt = decimal-length (word_of v) (word_small v lt)
 number_short false v lt = omega (arith, natural-length 9 v (omega arith))
 
-coded-inside : (b : ℕ) (ks : List Keyword) (i : ℕ) → coded b ks ≡ At i → i < length ks
+coded-inside : (b : ℕ) (ks : List Keyword) (i : ℕ) → coded b ks ≡ Some i → i < length ks
 unfolding coded
 coded-inside b ks i e =
-    let h = is-first (length ks) (λ i. eqb (keyword_at ks i).byte b) (At i) e in omega (arith, h.1)
+    let h = is-first (length ks) (λ i. eqb (keyword_at ks i).byte b) (Some i) e in omega (arith, h.1)
 
 operand_short : (o : Operand) (v : ℕ) → v < 2 ^ 32 → length (operand_token o v) ≤ 11
 unfolding operand_token
 operand_short o v lt = go (coded v (names o)) refl
   where
-    go : (f : Found) → coded v (names o) ≡ f → length (name_or (names o) (number_token o v) f) ≤ 11
-    go (At i) e = omega (arith, name-short o i (coded-inside v (names o) i e))
-    go Nowhere e = number_short (is_signed o) v lt
+    go : (f : Option ℕ) → coded v (names o) ≡ f → length (name_or (names o) (number_token o v) f) ≤ 11
+    go (Some i) e = omega (arith, name-short o i (coded-inside v (names o) i e))
+    go None e = number_short (is_signed o) v lt
 
 lead-short : (at : ℕ) (opens : Bool) → length (lead at opens) ≤ 1
 lead-short at opens = go (eqb at 0) opens
@@ -137,12 +134,12 @@ module _ (bytes : List ℕ) (are : AreBytes bytes) where
         short = omega (arith, length-append (lead at x.opens) x.token, lead-short at x.opens);
       }
 
-  keyword-is-short : (at : ℕ) (x : Listed) (f : Found) → coded (byte_at bytes at) keywords ≡ f → listed_keyword at f ≡
+  keyword-is-short : (at : ℕ) (x : Listed) (f : Option ℕ) → coded (byte_at bytes at) keywords ≡ f → listed_keyword at f ≡
       accepted x → Short at x
-  keyword-is-short at x (At i) p q =
+  keyword-is-short at x (Some i) p q =
       subst (Short at) (accepted-same _ _ q)
       (short at _ (omega arith) (omega arith) (omega (arith, keyword-short i (coded-inside (byte_at bytes at) keywords i p))))
-  keyword-is-short at x Nowhere p q = absurd (accepted≢refused _ x _ q refl)
+  keyword-is-short at x None p q = absurd (accepted≢refused _ x _ q refl)
 
   pub is-short : (at : ℕ) (pending : List Operand) (x : Listed) → listed_at bytes at pending ≡ accepted x → Short at x
   unfolding listed_at
@@ -172,11 +169,10 @@ pub record Told (o : Outcome Listed) (at : ℕ) (out new : List ℕ) (r : TokenP
   pub end : r.end ≡ length (put_of at x)
   pub same : length new ≡ length out
 
-pub puts-fine : (o : Outcome Listed) (at : ℕ) (out new : List ℕ) (r : TokenPut) → PutsToken o at out 0 new r → r.judged ≡
-    Judged.Fine →
+pub puts-fine : (o : Outcome Listed) (at : ℕ) (out new : List ℕ) (r : TokenPut) → PutsToken o at out 0 new (Ok r) →
     Told o at out new r
 unfolding PutsToken
-puts-fine (accepted x) at out new r h e =
+puts-fine (accepted x) at out new r h =
     record {
       x = x;
       listed = refl;
@@ -185,19 +181,25 @@ puts-fine (accepted x) at out new r h e =
       end = omega (arith, h.wrote.ends);
       same = wrote-size h.wrote;
     }
-puts-fine (refused f) at out new r h e = let p = h.0 in let z : ◌≡◌ {A = ℕ} 0 1 = cc in absurd (omega arith)
+puts-fine (refused f) at out new r h = absurd h
 
-pub puts-fault : (o : Outcome Listed) (at to : ℕ) (out new : List ℕ) (r : TokenPut) (f : Fault) → PutsToken o at out to new r →
-    r.judged ≡ Judged.Refused f → o ≡ refused f
+pub puts-fault : (o : Outcome Listed) (at to : ℕ) (out new : List ℕ) (f : Fault) → PutsToken o at out to new (Err f) →
+    o ≡ refused f
 unfolding PutsToken
-puts-fault (accepted x) at to out new r f h e = let p = h.fine in let z : ◌≡◌ {A = ℕ} 0 1 = cc in absurd (omega arith)
-puts-fault (refused g) at to out new r f h e = let p = h.0 in let z : g ≡ f = cc in ap refused z
+puts-fault (accepted x) at to out new f h = absurd h
+puts-fault (refused g) at to out new f h = ap refused (sym h.0)
 
 pub puts-accepted : (o : Outcome Listed) {at to : ℕ} {out new : List ℕ} {r : TokenPut} (x : Listed) →
-    PutsToken o at out to new r →
+    PutsToken o at out to new (Ok r) →
     o ≡ accepted x → PutToken x at out to new r
 unfolding PutsToken
 puts-accepted o x h e = rw e at h
+
+pub puts-ok : (o : Outcome Listed) (at to : ℕ) (out new : List ℕ) (r : Result TokenPut Fault) (x : Listed) →
+    PutsToken o at out to new r → o ≡ accepted x → IsOk r
+unfolding PutsToken
+puts-ok o at to out new (Ok r) x h e = refl
+puts-ok o at to out new (Err f) x h e = absurd (rw e at h)
 
 module _ (bytes : List ℕ) where
   abbrev pub rest_of : ℕ → ℕ → ℕ → Outcome (List ℕ)
@@ -299,7 +301,7 @@ module _ (bytes : List ℕ) where
 
       go : (os : List Operand) →
           length_answer (ended 46 at os ▷ λ rest. accepted ((m.text ++ rest) ++ (10 ∷ []))) ≡ ended_answer total (ended 46 at os)
-      go [] = ap Yielded.Number whole
+      go [] = ap Ok whole
       go (o ∷ os) = refl
 
   -- So far written.
@@ -360,7 +362,12 @@ module _ (bytes : List ℕ) where
     unfolding Room
     writing-room f = rw next-is.listed (room next-is.parts m.remains (fits-written out₀ f))
 
-    pub writing-next : (new : List ℕ) (r : TokenPut) → PutsToken (listed_at bytes at (pending_at pending)) at out to new r →
+    -- what is put of bytes that are listed is no refusal
+    pub writing-puts : (new : List ℕ) (r : Result TokenPut Fault) →
+        PutsToken (listed_at bytes at (pending_at pending)) at out to new r → IsOk r
+    writing-puts new r h = puts-ok (listed_at bytes at (pending_at pending)) at to out new r next-is.x h next-is.listed
+
+    pub writing-next : (new : List ℕ) (r : TokenPut) → PutsToken (listed_at bytes at (pending_at pending)) at out to new (Ok r) →
         AreBytes bytes → Writing out₀ (at + r.width) r.next new r.end
     writing-next new r h are =
         let n = next-is in
@@ -376,7 +383,7 @@ module _ (bytes : List ℕ) where
           remains = turn n.parts m.remains p.wrote;
         }
 
-    pub next-width : (new : List ℕ) (r : TokenPut) → PutsToken (listed_at bytes at (pending_at pending)) at out to new r →
+    pub next-width : (new : List ℕ) (r : TokenPut) → PutsToken (listed_at bytes at (pending_at pending)) at out to new (Ok r) →
         AreBytes bytes → (0 < r.width) × (r.width ≤ 4)
     next-width new r h are =
         let n = next-is in

@@ -1,12 +1,12 @@
 -- What is written for one token. Assumes nothing.
+use Rattle.std.specs.Prelude.{Option, Some, None, Result, Ok, Err}
 use Prim.Native.Nat.{ℕ, zero, suc, ◌+◌, ◌-◌, ◌*◌, ◌^◌, ◌≤◌, ◌<◌}
 use mathlib.Core.Bool.{Bool, true, false, cond}
 use mathlib.Core.List.{List, [], ◌∷◌, ◌++◌}
 use mathlib.Core.Path.{◌≡◌, refl, sym, ◌∙◌}
-use native.Mathlib.Decide.{dec_lt}
 use native.Mathlib.Omega.{arith}
 use borrow.Author.Tests.{eq-eqb, ne_eqb, le-leb, lt-leb}
-use lib.ListN.{length, drop, length-append, get_or-eq_default}
+use lib.ListN.{length, drop, length-append}
 use Rattle.model.specs.Rules.Outcome.{Outcome, accepted, refused, refuse}
 use Rattle.model.specs.Rules.Search.{first_below}
 use Rattle.model.specs.Rules.TextForm.{
@@ -25,14 +25,11 @@ use Rattle.model.specs.Rules.TextForm.{
 use Rattle.model.specs.Rules.Word.{byte_at, AreBytes}
 use Rattle.model.specs.Rules.Writing.{Wrote}
 use Rattle.model.specs.declared.Fault.{Fault}
-use Rattle.model.specs.declared.Found.{Found}
-use Rattle.model.specs.declared.Found.TheVariants.{At, Nowhere}
 use Rattle.model.specs.declared.Operand.{Operand}
 use Rattle.model.specs.declared.Operand.TheVariants.{One, Two, Four, Signed, Index, Mode}
 use Rattle.model.proofs.Basics.Outcomes.{accepted-then, refused-then, true-provided, false-provided}
 use Rattle.model.proofs.Basics.Left.{Parts, wrote-size}
 use Rattle.model.proofs.Pairs.Decide.{is-first}
-use Rattle.basics.specs.declared.Judged.TheVariants as Judged
 use Rattle.decimal.specs.PutBytes.{PutBytes}
 use Rattle.text_keyword.specs.Cells.{letters_of}
 use Rattle.text_keyword.proofs.Finding.{letters-more}
@@ -44,23 +41,16 @@ pub letters-parts : (letters : List ℕ) (i : ℕ) → (byte_at letters i ≡ 0 
     Parts (letters_of (drop i letters)) (byte_at letters i ∷ []) (letters_of (drop (i + 1) letters))
 letters-parts letters i some = record { is = letters-more letters i some }
 
-pub some-inside : (l : List ℕ) (i : ℕ) → (byte_at l i ≡ 0 → ⊥) → i < length l
-some-inside l i some = go (dec_lt i (length l))
-  where
-    go : Dec (i < length l) → i < length l
-    go (yes lt) = lt
-    go (no ge) = let le : length l ≤ i = omega arith in absurd (some (get_or-eq_default {A = ℕ} l 0 le))
-
 -- A search in which nothing passes.
-pub search-none : (n : ℕ) (test : ℕ → Bool) → ((i : ℕ) → i < n → test i ≡ false) → Nowhere ≡ first_below n test
+pub search-none : (n : ℕ) (test : ℕ → Bool) → ((i : ℕ) → i < n → test i ≡ false) → None ≡ first_below n test
 search-none n test none = go (first_below n test) refl
   where
-    go : (f : Found) → first_below n test ≡ f → Nowhere ≡ f
-    go (At j) e =
-        let h = is-first n test (At j) e in
+    go : (f : Option ℕ) → first_below n test ≡ f → None ≡ f
+    go (Some j) e =
+        let h = is-first n test (Some j) e in
         let t = sym (none j (omega (arith, h.1))) ∙ h.2 in
         let z : ◌≡◌ {A = ℕ} 0 1 = cc in absurd (omega arith)
-    go Nowhere e = refl
+    go None e = refl
 
 pub wrote-put : {old new bytes : List ℕ} {at end : ℕ} → PutBytes old at bytes new end → Wrote old at bytes new end
 wrote-put p = record { holds = p.holds; ends = p.ends }
@@ -114,11 +104,11 @@ size_small Index = omega arith
 size_small Mode = omega arith
 
 -- The token of an operand, by its names.
-pub token-named : (o : Operand) (v i : ℕ) → coded v (names o) ≡ At i → operand_token o v ≡ (keyword_at (names o) i).spelling
+pub token-named : (o : Operand) (v i : ℕ) → coded v (names o) ≡ Some i → operand_token o v ≡ (keyword_at (names o) i).spelling
 unfolding operand_token
 token-named o v i e = rw e refl
 
-pub token-number : (o : Operand) (v : ℕ) → coded v (names o) ≡ Nowhere → operand_token o v ≡ number_token o v
+pub token-number : (o : Operand) (v : ℕ) → coded v (names o) ≡ None → operand_token o v ≡ number_token o v
 unfolding operand_token
 token-number o v e = rw e refl
 
@@ -128,12 +118,12 @@ keyword_put i =
     let k = keyword_at keywords i in
     record { token = k.spelling; width = 1; pending = k.operands; opens = k.opens }
 
-pub keyword-listed : (bytes : List ℕ) (at i : ℕ) → coded (byte_at bytes at) keywords ≡ At i → listed_at bytes at [] ≡ accepted
+pub keyword-listed : (bytes : List ℕ) (at i : ℕ) → coded (byte_at bytes at) keywords ≡ Some i → listed_at bytes at [] ≡ accepted
     (keyword_put i)
 unfolding listed_at
 keyword-listed bytes at i e = rw e refl
 
-pub keyword-unknown : (bytes : List ℕ) (at : ℕ) → coded (byte_at bytes at) keywords ≡ Nowhere →
+pub keyword-unknown : (bytes : List ℕ) (at : ℕ) → coded (byte_at bytes at) keywords ≡ None →
     listed_at bytes at [] ≡ refuse 45 at
 unfolding listed_at
 keyword-unknown bytes at e = rw e refl
@@ -159,14 +149,14 @@ unfolding Room
 room-is e at to out h = rw e at h
 
 pub puts-is : {o : Outcome Listed} {x : Listed} → o ≡ accepted x → {at to : ℕ} {out new : List ℕ} {r : TokenPut} →
-    PutToken x at out to new r → PutsToken o at out to new r
+    PutToken x at out to new r → PutsToken o at out to new (Ok r)
 unfolding PutsToken
 puts-is e h = rw e h
 
-pub puts-refused : {o : Outcome Listed} {f : Fault} → o ≡ refused f → (at to : ℕ) (out : List ℕ) (r : TokenPut) →
-    r.judged ≡ Judged.Refused f → PutsToken o at out to out r
+pub puts-refused : {o : Outcome Listed} {f : Fault} → o ≡ refused f → (at to : ℕ) (out : List ℕ) (r : Result TokenPut Fault) →
+    r ≡ Err f → PutsToken o at out to out r
 unfolding PutsToken
-puts-refused e at to out r h = rw e (h, refl)
+puts-refused e at to out r h = rw (e, h) (refl, refl)
 
 -- What separates the token, then the token.
 module _ (separator token : List ℕ) (to : ℕ) (out : List ℕ) (fits : to + length (separator ++ token) ≤ length out) where

@@ -116,7 +116,10 @@ module _ {text reads firsts : List ℕ} {n : ℕ} {p : Program} (ix : Indexes te
           }
 
       pub taken_is : (r : Taken) → ReadTaken text (get_or reads i 0) r →
-          r ≡ record { kind = (read_at p x (i - get_or firsts x 0)).kind; operands = (read_at p x (i - get_or firsts x 0)).operands }
+          r ≡ record {
+            kind = (read_at p x (i - get_or firsts x 0)).kind;
+            operands = (read_at p x (i - get_or firsts x 0)).operands;
+          }
       taken_is r h = h.is _ _ (ap (operator_at text) place_is ∙ spells)
 
 pub rises-at : {text reads firsts : List ℕ} {n : ℕ} {p : Program} (ix : Indexes text reads firsts n p) (x : ℕ) → x < n →

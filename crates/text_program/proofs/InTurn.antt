@@ -1,4 +1,5 @@
 -- A check of one element after another that refuses at the lowest place. Assumes nothing.
+use Rattle.std.specs.Prelude.{Result, Ok, Err}
 use Prim.Native.Nat.{ℕ, suc, ◌≤◌, ◌<◌}
 use mathlib.Core.Bool.{Bool, true, false, cond}
 use mathlib.Core.List.{List, [], ◌∷◌, ◌++◌, map}
@@ -18,8 +19,6 @@ use Rattle.model.proofs.Basics.All.{all_append, all-at, all_map}
 use Rattle.model.proofs.Basics.Outcomes.{lowest-least}
 use Rattle.basics.specs.Judgement.{judgement_of}
 use Rattle.basics.proofs.Judgements.{judgement-fine, judgement-refused}
-use Rattle.basics.specs.declared.Judged.{Judged}
-use Rattle.basics.specs.declared.Judged.TheVariants as Judged
 use Rattle.text_program.specs.Tables.{no_chain, chain_at}
 use Rattle.text_program.proofs.Rising.{
   Rising,
@@ -109,7 +108,7 @@ module _ {A : Type 0} (places : A → List ℕ) (F : ℕ → A → List Fault) w
     pub check-starts : (least end : ℕ) → InTurn places least xs end → verdict ≡ lowest (join_from 0 F xs) → Left verdict xs 0
     check-starts least end t e = record { left = e; least = least; end = end; turn = t }
 
-    pub check-ends : (j : ℕ) → length xs ≤ j → Left verdict xs j → Judged.Fine ≡ judgement_of verdict
+    pub check-ends : (j : ℕ) → length xs ≤ j → Left verdict xs j → (Ok tt) ≡ judgement_of verdict
     unfolding judgement_of lowest join_from
     check-ends j le l =
         sym (ap judgement_of (l.left ∙ ap (λ ys. lowest (join_from j F ys)) (drop_of_length-le xs le)))
@@ -128,8 +127,8 @@ module _ {A : Type 0} (places : A → List ℕ) (F : ℕ → A → List Fault) w
       turns : InTurn places l.least (x ∷ drop (suc j) xs) l.end
       turns = subst (λ (ys : List A). InTurn places l.least ys l.end) (drop-cons xs j d lt) l.turn
 
-      module _ (r : Judged) (is : r ≡ judgement_of (lowest (F j x))) where
-        pub check-passes : r ≡ Judged.Fine → Left verdict xs (suc j)
+      module _ (r : Result (Unit {0}) Fault) (is : r ≡ judgement_of (lowest (F j x))) where
+        pub check-passes : r ≡ Ok tt → Left verdict xs (suc j)
         check-passes e =
             record {
               left =
@@ -140,7 +139,7 @@ module _ {A : Type 0} (places : A → List ℕ) (F : ℕ → A → List Fault) w
               turn = turns.2;
             }
 
-        pub check-refuses : AtPlaces → (f : Fault) → r ≡ Judged.Refused f → r ≡ judgement_of verdict
+        pub check-refuses : AtPlaces → (f : Fault) → r ≡ Err f → r ≡ judgement_of verdict
         unfolding judgement_of
         check-refuses h f e =
             let m = turns.0 in

@@ -17,7 +17,6 @@ use Rattle.model.specs.Rules.Word.{byte_at}
 use Rattle.model.specs.Says.Written.{OperatorByte}
 use Rattle.model.specs.declared.Kind.{Kind}
 use Rattle.model.specs.declared.Operator.{Operator}
-use Rattle.model.specs.declared.Operator.TheVariants as Operator
 use Rattle.model.specs.declared.Sampled.{Sampled}
 use Rattle.model.proofs.Texts.Picks.{operator-byte}
 use Rattle.model.proofs.Texts.Written.{operator-cut, operator-unknown}

@@ -1,4 +1,5 @@
 -- What an operator passes over, with its operands. Assumes nothing.
+use Rattle.std.specs.Prelude.{Result}
 use Prim.Native.Nat.{ℕ, suc, ◌+◌}
 use mathlib.Core.Bool.{true}
 use mathlib.Core.List.{List, map-append, append-nil}
@@ -7,13 +8,13 @@ use native.Mathlib.Omega.{arith}
 use lib.ListN.{length, length-append}
 use Rattle.model.specs.Rules.Image.{expr_code}
 use Rattle.model.specs.Rules.Outcome.{Outcome, accepted, refused, ◌▷◌, provided, Parsed}
-use Rattle.model.specs.Rules.Program.{Read, Expr, is_allowed, node, reads_of}
+use Rattle.model.specs.Rules.Program.{Expr, is_allowed, node, reads_of}
 use Rattle.model.specs.Rules.Word.{word_bytes, four_bytes}
 use Rattle.model.specs.declared.Kind.{Kind}
 use Rattle.model.specs.declared.Operator.{Operator}
-use Rattle.model.specs.declared.Operator.TheVariants as Operator
 use Rattle.model.specs.declared.Sampled.{Sampled}
 use Rattle.text_command.specs.Operator.{operands_of, lookups_of}
+use Rattle.text_program.specs.declared.Walk.{Walk}
 use Rattle.text_program.specs.Walks.{
   places_of,
   Outline,
@@ -25,7 +26,7 @@ use Rattle.text_program.specs.Walks.{
   WalksBy,
   Walks,
 }
-use Rattle.text_program.specs.declared.Walked.{Walked}
+use Rattle.model.specs.declared.Fault.{Fault}
 use Rattle.text_program.proofs.Walks.{alike}
 
 abbrev mapped : (Outline → Outline) → Outcome Outline → Outcome Outline
@@ -86,7 +87,7 @@ module _ (sub : ℕ → Outcome (Parsed Expr)) where
         operand 2 _ _ _ (λ x. operand 1 _ _ _ (λ y. operand 0 _ _ _ (λ z. ap {B = Outcome Outline} accepted
         (alike (simp (map-append, append-nil)) (simp length-append (omega arith)) (omega arith)))))
 
-pub walks-operated : (o : Outcome Outline) {l l' : List ℕ} {count to looks : ℕ} {r : Walked} (k : ℕ) →
+pub walks-operated : (o : Outcome Outline) {l l' : List ℕ} {count to looks : ℕ} {r : Result Walk Fault} (k : ℕ) →
     Walks o l count (to + 1) (looks + k) l' r → Walks (mapped (operated k) o) l count to looks l' r
 unfolding WalksBy
 walks-operated (accepted x) k w =

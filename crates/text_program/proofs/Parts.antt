@@ -1,8 +1,9 @@
 -- Laws of the parser's steps, by which a reader's answer follows from those of its parts. Assumes nothing.
+use Rattle.std.specs.Prelude.{Result, Ok, Err}
 use mathlib.Core.Path.{◌≡◌, refl, sym, ap, subst, ◌∙◌}
 use mathlib.Core.Bool.{Bool, true, false, cond}
 use mathlib.Core.List.{List, [], ◌∷◌, ◌++◌}
-use Prim.Native.Nat.{ℕ, zero, suc, ◌+◌, ◌-◌, ◌≤◌, ◌<◌}
+use Prim.Native.Nat.{ℕ, zero, suc, ◌+◌, ◌≤◌, ◌<◌}
 use native.Mathlib.Omega.{arith}
 use lib.Dec.{leb, ltb}
 use lib.ListN.{length, get_or-eq_default}
@@ -14,16 +15,16 @@ use Rattle.model.specs.Rules.Outcome.{Outcome, accepted, refused, fault, refuse,
 use Rattle.model.specs.Rules.Program.{Link, parse_links}
 use Rattle.model.specs.Rules.Word.{byte_at}
 use Rattle.model.specs.declared.Declaration.{Declaration}
-use Rattle.model.specs.declared.Declaration.TheVariants as Declaration
 use Rattle.model.specs.declared.Fault.{Fault}
 use Rattle.model.specs.contracts.Declaration.{enum}
 use Rattle.text_program.specs.Results.{links_of, chain_of}
 use Rattle.text_program.specs.Results as Results
 use Rattle.text_program.specs.declared.Entry.TheVariants as Entry
 use Rattle.text_program.specs.declared.LinksRead.{LinksRead}
-use Rattle.text_program.specs.declared.LinksRead.TheVariants as Read
 use Rattle.text_program.specs.declared.Step.{Step}
-use Rattle.text_program.specs.declared.Step.TheVariants as Step
+
+ok-same : {x y : LinksRead} → ◌≡◌ {A = Result LinksRead Fault} (Ok x) (Ok y) → x ≡ y
+ok-same e = cc e
 
 -- The LINKs of a chain end, are too many, are cut, or go on.
 abbrev pub link_at : List ℕ → ℕ → Link
@@ -80,40 +81,40 @@ unfolding parse_links ◌▷◌ provided
 links-more room text at links e h = rw (eq-eqb (byte_at text at) 0x13 e, parse_links) (rw (le-leb (at + 2) (length text) h))
 
 -- The step of a LAT from its LINKs.
-pub chain-short : (at count to looks : ℕ) (o : Outcome (Parsed (List Link))) {r : LinksRead} {k n : ℕ} → r ≡ links_of o →
-    r ≡ Read.Links k n →
-    k < 2 → Step.Refused (fault 5 at) ≡ chain_of at count to looks o
+pub chain-short : (at count to looks : ℕ) (o : Outcome (Parsed (List Link))) {r : Result LinksRead Fault} {x : LinksRead} →
+    r ≡ links_of o → r ≡ Ok x → x.count < 2 → Err (fault 5 at) ≡ chain_of at count to looks o
 unfolding links_of chain_of
-chain-short at count to looks (accepted x) {r} {k} {n} e g h =
-    let z : k ≡ length x.value = cc in rw (lt-leb 2 (length x.value) (omega arith))
-chain-short at count to looks (refused f) {r} {k} {n} e g h = let z : ◌≡◌ {A = ℕ} 0 1 = cc in absurd (omega arith)
+chain-short at count to looks (accepted y) {r} {x} e g h =
+    let z : x.count ≡ length y.value = ap (λ l. l.count) (ok-same (sym g ∙ e)) in rw (lt-leb 2 (length y.value) (omega arith))
+chain-short at count to looks (refused f) {r} {x} e g h = let z : ◌≡◌ {A = ℕ} 0 1 = cc in absurd (omega arith)
 
-pub chain_next : (at count to looks : ℕ) (o : Outcome (Parsed (List Link))) {r : LinksRead} {k n : ℕ} → r ≡ links_of o →
-    r ≡ Read.Links k n →
-    2 ≤ k → Step.Adds (Entry.Chain k) (record { at = n; reads = count; code = to; lookups = looks }) ≡ chain_of at count to looks o
+pub chain_next : (at count to looks : ℕ) (o : Outcome (Parsed (List Link))) {r : Result LinksRead Fault} {x : LinksRead} →
+    r ≡ links_of o → r ≡ Ok x → 2 ≤ x.count →
+    Ok (Step.Adds (Entry.Chain x.count) (record { at = x.next; reads = count; code = to; lookups = looks })) ≡
+    chain_of at count to looks o
 unfolding links_of chain_of
-chain_next at count to looks (accepted x) {r} {k} {n} e g h =
-    let z : k ≡ length x.value = cc in
-    let y : n ≡ x.next = cc in
-    rw (le-leb 2 (length x.value) (omega arith), z, y)
-chain_next at count to looks (refused f) {r} {k} {n} e g h = let z : ◌≡◌ {A = ℕ} 0 1 = cc in absurd (omega arith)
+chain_next at count to looks (accepted y) {r} {x} e g h =
+    let s = ok-same (sym g ∙ e) in
+    let z : x.count ≡ length y.value = ap (λ l. l.count) s in
+    let w : x.next ≡ y.next = ap (λ l. l.next) s in
+    rw (le-leb 2 (length y.value) (omega arith), z, w)
+chain_next at count to looks (refused f) {r} {x} e g h = let z : ◌≡◌ {A = ℕ} 0 1 = cc in absurd (omega arith)
 
-pub chain-refused : (at count to looks : ℕ) (o : Outcome (Parsed (List Link))) {r : LinksRead} {f : Fault} → r ≡ links_of o →
-    r ≡ Read.Refused f →
-    Step.Refused f ≡ chain_of at count to looks o
+pub chain-refused : (at count to looks : ℕ) (o : Outcome (Parsed (List Link))) {r : Result LinksRead Fault} {f : Fault} →
+    r ≡ links_of o → r ≡ Err f → Err f ≡ chain_of at count to looks o
 unfolding links_of chain_of
 chain-refused at count to looks (accepted x) {r} {f} e g = let z : ◌≡◌ {A = ℕ} 0 1 = cc in absurd (omega arith)
-chain-refused at count to looks (refused q) {r} {f} e g = let z : f ≡ q = cc in ap Step.Refused z
+chain-refused at count to looks (refused q) {r} {f} e g = let z : f ≡ q = cc in ap Err z
 
 -- The step of a TAG from the byte after it.
 module _ (text : List ℕ) (at label count to looks : ℕ) where
-  pub tag-ends : length text ≤ at + 3 → Step.Refused (fault 2 (length text)) ≡ Results.tag_of text at label count to looks
+  pub tag-ends : length text ≤ at + 3 → Err (fault 2 (length text)) ≡ Results.tag_of text at label count to looks
   unfolding Results.tag_of
   tag-ends h = rw (le-ltb (at + 3) (length text) h)
 
-  abbrev tag_by : Bool → Step
-  tag_by t = cond t (Step.Adds (Entry.Label label) (record { at = at + 3; reads = count; code = to; lookups = looks }))
-      (Step.Refused (fault 3 at))
+  abbrev tag_by : Bool → Result Step Fault
+  tag_by t = cond t (Ok (Step.Adds (Entry.Label label) (record { at = at + 3; reads = count; code = to; lookups = looks })))
+      (Err (fault 3 at))
 
   pub tag-by : (t : Bool) → at + 3 < length text → is_signal (byte_at text (at + 3)) ≡ t →
       tag_by t ≡ Results.tag_of text at label count to looks

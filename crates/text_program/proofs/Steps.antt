@@ -1,4 +1,5 @@
 -- What the step of each declaration says of the definition. Assumes nothing.
+use Rattle.std.specs.Prelude.{Result, Ok, Err}
 use mathlib.Core.Path.{◌≡◌, refl, ◌∙◌}
 use mathlib.Core.Bool.{Bool, true, false, cond}
 use mathlib.Core.List.{List, [], ◌∷◌}
@@ -34,19 +35,16 @@ use Rattle.model.specs.Rules.Word.{byte_at}
 use Rattle.model.specs.Says.Grammar.{HasRoom}
 use Rattle.model.specs.Says.Written.{DeclarationWhole}
 use Rattle.model.specs.declared.Declaration.{Declaration}
-use Rattle.model.specs.declared.Declaration.TheVariants as Declaration
 use Rattle.model.specs.declared.Fault.{Fault}
 use Rattle.model.specs.declared.Mode.{Mode}
 use Rattle.model.proofs.Texts.Commands.{byte_of, declaration-sound, written_byte}
 use Rattle.model.proofs.Texts.Room.{fit-declaration, signal-room, chain-room, row_room}
 use Rattle.model.proofs.Texts.Written.{as_written}
-use Rattle.basics.specs.Judgement.{judgement_of}
-use Rattle.text_program.specs.Results.{chain_of, tag_of, stop_of}
+use Rattle.text_program.specs.Results.{chain_of, tag_of, end_of}
 use Rattle.text_program.specs.Steps.{Adds, Stepped}
 use Rattle.text_program.specs.Walks.{places_of, Moves, EquationBy, WalksEquation}
 use Rattle.text_program.specs.declared.Entry.TheVariants as Entry
 use Rattle.text_program.specs.declared.Step.{Step}
-use Rattle.text_program.specs.declared.Step.TheVariants as Step
 use Rattle.text_program.proofs.Longer.{Past, past-links}
 use Rattle.text_program.proofs.Walks.{parsed-spans}
 
@@ -70,7 +68,7 @@ at_rest = record { goes = refl; counts = omega arith; codes = omega arith; looke
 module _ (least : ℕ) (text : List ℕ) (at label : ℕ) (p : Program) (l : List ℕ) (n to looks : ℕ) where
   -- A command that may not stand here.
   pub step-stopped : {f : Fault} → declaration_here text at p ≡ refused f →
-      Stepped least text at label p l n to looks l (Step.Refused f)
+      Stepped least text at label p l n to looks l (Err f)
   unfolding Stepped parse_commands ◌▷◌
   step-stopped e left = rw e
 
@@ -92,23 +90,24 @@ module _ (least : ℕ) (text : List ℕ) (at label : ℕ) (p : Program) (l : Lis
     -- A command that is refused whatever follows.
     pub step-refused : (c : Declaration) (f : Fault) → declaration_at text at ≡ c →
         ((next : ℕ → ℕ → Program → Outcome Program) → declare least next text at label p c ≡ refused f) →
-        Stepped least text at label p l n to looks l (Step.Refused f)
+        Stepped least text at label p l n to looks l (Err f)
     unfolding Stepped
     step-refused c f e h left = declared c e left ∙ h _
 
     -- END is the last byte, or something follows it.
     end_by : (b : Bool) → leb (length text) (at + 1) ≡ b → declaration_at text at ≡ Declaration.End →
-        Stepped least text at label p l n to looks l (stop_of (judgement_of (provided b 6 (at + 1))))
-    unfolding Stepped stop_of judgement_of provided declare ◌▷◌
+        Stepped least text at label p l n to looks l (cond b (Ok Step.End) (Err (fault 6 (at + 1))))
+    unfolding Stepped provided declare ◌▷◌
     end_by true h e = (λ left. declared Declaration.End e left ∙ rw h, refl)
     end_by false h e = λ left. declared Declaration.End e left ∙ rw h
 
     pub step_end : declaration_at text at ≡ Declaration.End →
-        Stepped least text at label p l n to looks l (stop_of (judgement_of (provided (leb (length text) (at + 1)) 6 (at + 1))))
+        Stepped least text at label p l n to looks l (end_of text at)
+    unfolding end_of
     step_end e = end_by (leb (length text) (at + 1)) refl e
 
     -- An EQ goes on after its expression.
-    equation-by : (o : Outcome (Parsed Expr)) {l' : List ℕ} {r : Step} (period : ℕ) (initial : ℤ) (weight : ℕ) →
+    equation-by : (o : Outcome (Parsed Expr)) {l' : List ℕ} {r : Result Step Fault} (period : ℕ) (initial : ℤ) (weight : ℕ) →
         parse_expr least 16 text (at + 8) ≡ o → declaration_at text at ≡ Declaration.Equation period initial weight →
         WalksEquation o (Entry.Signal period weight) l n to looks l' r → Stepped least text at label p l n to looks l' r
     unfolding Stepped Adds EquationBy declare ◌▷◌
@@ -149,7 +148,7 @@ module _ (least : ℕ) (text : List ℕ) (at label : ℕ) (p : Program) (l : Lis
     equation-by (refused f) period initial weight h e v =
         rw v.by (λ left. declared (Declaration.Equation period initial weight) e left ∙ rw h)
 
-    pub step-equation : {l' : List ℕ} {r : Step} (period : ℕ) (initial : ℤ) (weight : ℕ) →
+    pub step-equation : {l' : List ℕ} {r : Result Step Fault} (period : ℕ) (initial : ℤ) (weight : ℕ) →
         declaration_at text at ≡ Declaration.Equation period initial weight →
         WalksEquation (parse_expr least 16 text (at + 8)) (Entry.Signal period weight) l n to looks l' r →
         Stepped least text at label p l n to looks l' r
@@ -164,8 +163,9 @@ module _ (least : ℕ) (text : List ℕ) (at label : ℕ) (p : Program) (l : Lis
       where
         go : (b : Bool) → leb 2 (length x.value) ≡ b →
             Stepped least text at label p l n to looks l
-            (cond b (Step.Adds (Entry.Chain (length x.value)) (record { at = x.next; reads = n; code = to; lookups = looks }))
-            (Step.Refused (fault 5 at)))
+            (cond b
+            (Ok (Step.Adds (Entry.Chain (length x.value)) (record { at = x.next; reads = n; code = to; lookups = looks })))
+            (Err (fault 5 at)))
         go true f =
             record {
               program = with_chain p (record { place = at; mode = mode; bound = bound; links = x.value });
@@ -200,7 +200,7 @@ module _ (least : ℕ) (text : List ℕ) (at label : ℕ) (p : Program) (l : Lis
 
     pub step-input : (period : ℕ) (initial : ℤ) → declaration_at text at ≡ Declaration.Input period initial →
         Stepped least text at label p l n to looks l
-        (Step.Adds (Entry.Signal period 0) (record { at = at + 6; reads = n; code = to + 4; lookups = looks }))
+        (Ok (Step.Adds (Entry.Signal period 0) (record { at = at + 6; reads = n; code = to + 4; lookups = looks })))
     unfolding Stepped Adds declare
     step-input period initial e =
         record {
@@ -231,8 +231,8 @@ module _ (least : ℕ) (text : List ℕ) (at label : ℕ) (p : Program) (l : Lis
         }
 
     pub step-cap : (m : ℕ) → declaration_at text at ≡ Declaration.Cap m →
-        Stepped least text at label p l n to looks l (Step.Adds (Entry.Cap m)
-        (record { at = at + 5; reads = n; code = to; lookups = looks }))
+        Stepped least text at label p l n to looks l (Ok (Step.Adds (Entry.Cap m)
+        (record { at = at + 5; reads = n; code = to; lookups = looks })))
     unfolding Stepped Adds declare
     step-cap m e =
         record {
@@ -251,7 +251,7 @@ module _ (least : ℕ) (text : List ℕ) (at label : ℕ) (p : Program) (l : Lis
 
     pub step_row : (low high result : ℤ) → declaration_at text at ≡ Declaration.Row low high result →
         Stepped least text at label p l n to looks l
-        (Step.Adds Entry.Row (record { at = at + 13; reads = n; code = to; lookups = looks }))
+        (Ok (Step.Adds Entry.Row (record { at = at + 13; reads = n; code = to; lookups = looks })))
     unfolding Stepped Adds declare
     step_row low high result e =
         record {
@@ -287,9 +287,9 @@ module _ (least : ℕ) (text : List ℕ) (at label : ℕ) (p : Program) (l : Lis
         go : (more signal : Bool) → ltb (at + 3) (length text) ≡ more → is_signal (byte_at text (at + 3)) ≡ signal →
             Stepped least text at label p l n to looks l
             (cond more
-            (cond signal (Step.Adds (Entry.Label given) (record { at = at + 3; reads = n; code = to; lookups = looks }))
-            (Step.Refused (fault 3 at)))
-            (Step.Refused (fault 2 (length text))))
+            (cond signal (Ok (Step.Adds (Entry.Label given) (record { at = at + 3; reads = n; code = to; lookups = looks })))
+            (Err (fault 3 at)))
+            (Err (fault 2 (length text))))
         go true true f g =
             record {
               program = p;

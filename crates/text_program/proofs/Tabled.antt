@@ -1,14 +1,12 @@
 -- Tables that are a program's stay so when both get one entry more, and what the program reader answers. Assumes nothing.
+use Rattle.std.specs.Prelude.{Result, Ok, Err}
 use mathlib.Core.Path.{◌≡◌, refl, sym, ap, subst, ◌∙◌}
-use mathlib.Core.Bool.{true}
 use mathlib.Core.List.{List, [], ◌∷◌, ◌++◌}
-use types.Run.{OneOf, miss}
 use Prim.Native.Nat.{ℕ, zero, suc, ◌+◌, ◌-◌, ◌*◌, ◌≤◌, ◌<◌}
 use native.Mathlib.Decide.{dec_lt}
 use native.Mathlib.Omega.{arith}
 use lib.ListN.{length, get_or, set, length-append, length-map, length-set, get_or-append}
 use lib.Seq.{sets, length-sets, get_or-append_seam, get_or-set_same, get_or-set_other}
-use denote.Enum.Declared.{tag_of, declared}
 use borrow.Author.Tests.{le-ltb}
 use Rattle.model.specs.Rules.Outcome.{Outcome, fault, refuse, ◌▷◌, provided}
 use Rattle.model.specs.Rules.Program.{
@@ -43,19 +41,21 @@ use Rattle.text_program.specs.Tables.{
   ReadsOf,
   TablesOf,
   Space,
+  EntryFits,
+  with_entry,
+  signal_added,
+  chain_added,
+  cap_added,
+  row_added,
   Unread,
   ProgramReads,
 }
 use Rattle.text_program.specs.Walks.{places_of, WalkRoom, Moves}
 use Rattle.text_program.specs.declared.Entry.{Entry}
-use Rattle.text_program.specs.declared.Entry.TheVariants as Entry
-use Rattle.basics.specs.declared.Judged.TheVariants as Judged
 use Rattle.text_program.specs.declared.Step.{Step}
-use Rattle.text_program.specs.declared.Step.TheVariants as Step
 use Rattle.text_program.specs.declared.Tables.{Tables}
 use Rattle.text_program.specs.declared.Walk.{Walk}
 use Rattle.text_program.proofs.Filled.{filled}
-use Rattle.text_program.specs.contracts.Step.{enum}
 use Rattle.text_program.proofs.Sums.{sets-before, sets-inside, signal-old, signal-new, signal-count, sums-below, sums-more}
 
 -- A table of a value of each element, with one element more.
@@ -76,91 +76,6 @@ lookups-more : (xs : List Signal) (x : Signal) → lookups (xs ++ (x ∷ [])) �
 unfolding lookups
 lookups-more [] x = omega arith
 lookups-more (y ∷ ys) x = omega (arith, lookups-more ys x)
-
--- The tables with one entry more.
-abbrev pub signal_added : Tables → ℕ → ℕ → ℕ → ℕ → ℕ → ℕ → ℕ → Tables
-signal_added t at label period weight n to looks =
-    record {
-      judged = t.judged;
-      signals = t.signals + 1;
-      places = set t.places t.signals at;
-      periods = set t.periods t.signals period;
-      weights = set t.weights t.signals weight;
-      labels = set t.labels t.signals label;
-      firsts = set t.firsts (t.signals + 1) n;
-      codes = set t.codes (t.signals + 1) to;
-      chains = t.chains;
-      starts = t.starts;
-      lengths = t.lengths;
-      capped = t.capped;
-      limit = t.limit;
-      rows = t.rows;
-      offsets = t.offsets;
-      lookups = looks;
-    }
-
-abbrev pub chain_added : Tables → ℕ → ℕ → Tables
-chain_added t at k =
-    record {
-      judged = t.judged;
-      signals = t.signals;
-      places = t.places;
-      periods = t.periods;
-      weights = t.weights;
-      labels = t.labels;
-      firsts = t.firsts;
-      codes = t.codes;
-      chains = t.chains + 1;
-      starts = set t.starts t.chains at;
-      lengths = set t.lengths t.chains k;
-      capped = t.capped;
-      limit = t.limit;
-      rows = t.rows;
-      offsets = t.offsets;
-      lookups = t.lookups;
-    }
-
-abbrev pub cap_added : Tables → ℕ → Tables
-cap_added t n =
-    record {
-      judged = t.judged;
-      signals = t.signals;
-      places = t.places;
-      periods = t.periods;
-      weights = t.weights;
-      labels = t.labels;
-      firsts = t.firsts;
-      codes = t.codes;
-      chains = t.chains;
-      starts = t.starts;
-      lengths = t.lengths;
-      capped = true;
-      limit = n;
-      rows = t.rows;
-      offsets = t.offsets;
-      lookups = t.lookups;
-    }
-
-abbrev pub row_added : Tables → ℕ → Tables
-row_added t at =
-    record {
-      judged = t.judged;
-      signals = t.signals;
-      places = t.places;
-      periods = t.periods;
-      weights = t.weights;
-      labels = t.labels;
-      firsts = t.firsts;
-      codes = t.codes;
-      chains = t.chains;
-      starts = t.starts;
-      lengths = t.lengths;
-      capped = t.capped;
-      limit = t.limit;
-      rows = t.rows + 1;
-      offsets = set t.offsets t.rows at;
-      lookups = t.lookups;
-    }
 
 -- The program read up to `at`, its tables, a TAG's label, and what is still to be read.
 pub record Reading (least : ℕ) (text reads : List ℕ) (t : Tables) (at label n to : ℕ) : Type 0 where
@@ -190,7 +105,7 @@ module _ {least : ℕ} {text reads : List ℕ} {t : Tables} {at label n to : ℕ
   pub same_size : length reads' ≡ length reads
   same_size = ap length m.holds ∙ simp length-sets
 
-  pub room_next : WalkRoom (length text) w.at w.reads w.code w.lookups (length reads')
+  room_next : WalkRoom (length text) w.at w.reads w.code w.lookups (length reads')
   room_next =
       record {
         short = r.room.short;
@@ -246,7 +161,7 @@ module _ {least : ℕ} {text reads : List ℕ} {t : Tables} {at label n to : ℕ
         fits = omega (arith, h.fits, same_size);
       }
 
-  pub chain_next : {k : ℕ} → e ≡ Entry.Chain k → Reading least text reads' (chain_added t at k) w.at 0 w.reads w.code
+  chain_next : {k : ℕ} → e ≡ Entry.Chain k → Reading least text reads' (chain_added t at k) w.at 0 w.reads w.code
   unfolding Adds
   chain_next {k} q =
       let b = subst (λ (z : Entry). Adds (length text) p at label z a.program w.at a.places a.code a.looked) q
@@ -302,7 +217,7 @@ module _ {least : ℕ} {text reads : List ℕ} {t : Tables} {at label n to : ℕ
         onward = onward-next q c.is;
       }
 
-  pub chain_fits : {k : ℕ} → e ≡ Entry.Chain k → t.chains < 16
+  chain_fits : {k : ℕ} → e ≡ Entry.Chain k → t.chains < 16
   unfolding Adds
   chain_fits {k} q =
       let b = subst (λ (z : Entry). Adds (length text) p at label z a.program w.at a.places a.code a.looked) q
@@ -310,7 +225,7 @@ module _ {least : ℕ} {text reads : List ℕ} {t : Tables} {at label n to : ℕ
       omega (arith, b.0.room, r.tables.counts.chains-are)
 
   -- A CAP.
-  pub cap-next : {k : ℕ} → e ≡ Entry.Cap k → Reading least text reads' (cap_added t k) w.at 0 w.reads w.code
+  cap-next : {k : ℕ} → e ≡ Entry.Cap k → Reading least text reads' (cap_added t k) w.at 0 w.reads w.code
   unfolding Adds
   cap-next {k} q =
       let b = subst (λ (z : Entry). Adds (length text) p at label z a.program w.at a.places a.code a.looked) q
@@ -370,7 +285,7 @@ module _ {least : ℕ} {text reads : List ℕ} {t : Tables} {at label n to : ℕ
       }
 
   -- A TAG.
-  pub tag-next : {k : ℕ} → e ≡ Entry.Label k → Reading least text reads' t w.at k w.reads w.code
+  tag-next : {k : ℕ} → e ≡ Entry.Label k → Reading least text reads' t w.at k w.reads w.code
   unfolding Adds
   tag-next {k} q =
       let b = subst (λ (z : Entry). Adds (length text) p at label z a.program w.at a.places a.code a.looked) q
@@ -389,7 +304,7 @@ module _ {least : ℕ} {text reads : List ℕ} {t : Tables} {at label n to : ℕ
       }
 
   -- A row.
-  pub row_next : e ≡ Entry.Row → Reading least text reads' (row_added t at) w.at 0 w.reads w.code
+  row_next : e ≡ Entry.Row → Reading least text reads' (row_added t at) w.at 0 w.reads w.code
   unfolding Adds
   row_next q =
       let b = subst (λ (z : Entry). Adds (length text) p at label z a.program w.at a.places a.code a.looked) q
@@ -450,7 +365,7 @@ module _ {least : ℕ} {text reads : List ℕ} {t : Tables} {at label n to : ℕ
         onward = onward-next q c.is;
       }
 
-  pub row_fits : e ≡ Entry.Row → t.rows < 32
+  row_fits : e ≡ Entry.Row → t.rows < 32
   unfolding Adds
   row_fits q =
       let b = subst (λ (z : Entry). Adds (length text) p at label z a.program w.at a.places a.code a.looked) q
@@ -584,27 +499,59 @@ module _ {least : ℕ} {text reads : List ℕ} {t : Tables} {at label n to : ℕ
   signal-added q = subst (λ (z : Entry). Adds (length text) p at label z a.program w.at a.places a.code a.looked)
       q a.adds
 
-  pub signal-next : {period weight : ℕ} → e ≡ Entry.Signal period weight →
+  signal-next : {period weight : ℕ} → e ≡ Entry.Signal period weight →
       Reading least text reads' (signal_added t at label period weight w.reads w.code w.lookups) w.at 0 w.reads
       w.code
   signal-next q = signal-made q (signal-added q)
 
-  -- There is space for it, and its numbers fit two bytes.
-  pub record SpaceLeft : Type 0 where
-    pub below : t.signals < 64
-    pub few : w.reads < 65536
-    pub small : w.code < 65536
-
-  pub signal-fits : {period weight : ℕ} → e ≡ Entry.Signal period weight → SpaceLeft
+  signal-fits : {period weight : ℕ} → e ≡ Entry.Signal period weight → (t.signals < 64) × (w.reads < 65536) × (w.code < 65536)
   signal-fits q =
-      let b = signal-added q in
-      record {
-        below = omega (arith, b.room, r.tables.counts.signals-are);
-        few = omega (arith, room_next.few, room_next.short, b.inside);
-        small = omega (arith, room_next.small, room_next.short, b.inside);
-      }
+      let b = signal-added q in (
+        omega (arith, b.room, r.tables.counts.signals-are),
+        omega (arith, room_next.few, room_next.short, b.inside),
+        omega (arith, room_next.small, room_next.short, b.inside),
+      )
 
--- A step that adds nothing is the answer: END, that the tables are the program's, where they are judged fine; a refusal, itself.
+  -- Whatever is added: it fits, and the tables are those of the program that the definition goes on with.
+  pub entry-fits : EntryFits t e w
+  unfolding EntryFits
+  entry-fits = go e refl
+    where
+      go : (z : Entry) → e ≡ z → EntryFits t z w
+      go (Entry.Signal period weight) q = signal-fits q
+      go (Entry.Chain k) q = chain_fits q
+      go (Entry.Cap k) q = tt
+      go (Entry.Label given) q = tt
+      go Entry.Row q = row_fits q
+
+  pub entry-next : Reading least text reads' (with_entry t at label e w) w.at (label_after e) w.reads w.code
+  entry-next = go e refl
+    where
+      go : (z : Entry) → e ≡ z → Reading least text reads' (with_entry t at label z w) w.at (label_after z) w.reads w.code
+      go (Entry.Signal period weight) q = signal-next q
+      go (Entry.Chain k) q = chain_next q
+      go (Entry.Cap k) q = cap-next q
+      go (Entry.Label given) q = tag-next q
+      go Entry.Row q = row_next q
+
+  pub lookups-next : w.lookups ≡ (with_entry t at label e w).lookups
+  unfolding Adds
+  lookups-next = go e refl
+    where
+      added : {z : Entry} → e ≡ z → Adds (length text) p at label z a.program w.at a.places a.code a.looked
+      added q = subst (λ (y : Entry). Adds (length text) p at label y a.program w.at a.places a.code a.looked) q a.adds
+
+      same : a.looked ≡ 0 → w.lookups ≡ t.lookups
+      same none = omega (arith, m.looked, none)
+
+      go : (z : Entry) → e ≡ z → w.lookups ≡ (with_entry t at label z w).lookups
+      go (Entry.Signal period weight) q = refl
+      go (Entry.Chain k) q = same (added q).3
+      go (Entry.Cap k) q = same (added q).3
+      go (Entry.Label given) q = same (added q).3
+      go Entry.Row q = same (added q).3
+
+-- A step that adds nothing is the answer: END, that the tables are the program's; a refusal, itself.
 module _ {least : ℕ} {text reads : List ℕ} {t : Tables} {at label n to : ℕ} (r : Reading least text reads t at label n to)
     (lt : at < length text) (reads' : List ℕ) where
   stops_as : (o : Outcome Program) →
@@ -614,19 +561,15 @@ module _ {least : ℕ} {text reads : List ℕ} {t : Tables} {at label n to : ℕ
       r.onward ∙ ap (λ d. parse_commands least d text at label r.program) (one_less r.left h) ∙ s (r.left - 1)
 
   pub program-refused : (f : Fault) →
-      Stepped least text at label r.program reads n to t.lookups reads' (Step.Refused f) →
-      (t' : Tables) → t'.judged ≡ Judged.Refused f → ProgramReads (parse_with least text) reads' t'
+      Stepped least text at label r.program reads n to t.lookups reads' (Err f) → (q : Result Tables Fault) → q ≡ Err f →
+      ProgramReads (parse_with least text) reads' q
   unfolding Stepped ProgramReads
-  program-refused f s t' q = rw (stops_as _ s) q
+  program-refused f s q e = rw (stops_as _ s) e
 
-  pub program-done : (step : Step) → OneOf (1 ∷ 2 ∷ []) (tag_of (declared enum) step) →
-      OneOf (0 ∷ 1 ∷ []) (tag_of (declared enum) step) →
-      Stepped least text at label r.program reads n to t.lookups reads' step → t.judged ≡ Judged.Fine →
-      ProgramReads (parse_with least text) reads' t
+  pub program-done : Stepped least text at label r.program reads n to t.lookups reads' (Ok Step.End) →
+      ProgramReads (parse_with least text) reads' (Ok t)
   unfolding Stepped ProgramReads
-  program-done (Step.Adds x w) k l s q = absurd (miss (1 ∷ 2 ∷ []) 0 tt k)
-  program-done Step.End k l s q = rw (stops_as _ s.0) (q, r.tables, rw s.1 r.reads-are)
-  program-done (Step.Refused f) k l s q = absurd (miss (0 ∷ 1 ∷ []) 2 tt l)
+  program-done s = rw (stops_as _ s.0) (t, refl, r.tables, rw s.1 r.reads-are)
 
 -- So is the end of the text.
 commands-past : (least left : ℕ) (text : List ℕ) (at label : ℕ) (p : Program) → length text ≤ at →
@@ -637,15 +580,15 @@ commands-past least (suc left) text at label p h = rw (le-ltb at (length text) h
 
 pub program-ends : {least : ℕ} {text reads : List ℕ} {t : Tables} {at label n to : ℕ}
     (r : Reading least text reads t at label n to) →
-    length text ≤ at → (reads' : List ℕ) (t' : Tables) → t'.judged ≡ Judged.Refused (fault 2 (length text)) →
-    ProgramReads (parse_with least text) reads' t'
+    length text ≤ at → (reads' : List ℕ) (q : Result Tables Fault) → q ≡ Err (fault 2 (length text)) →
+    ProgramReads (parse_with least text) reads' q
 unfolding ProgramReads
-program-ends {least} {text} {at = at} {label = label} r h reads' t' q =
-    rw (r.onward ∙ commands-past least r.left text at label r.program h) q
+program-ends {least} {text} {at = at} {label = label} r h reads' q e =
+    rw (r.onward ∙ commands-past least r.left text at label r.program h) e
 
 -- Nothing is read at first.
 pub starts-empty : (least : ℕ) (text reads : List ℕ) (t : Tables) → length text ≤ 8192 → length text ≤ 2 * length reads →
-    Unread Judged.Fine t → Reading least text reads t 0 0 0 0
+    Unread t → Reading least text reads t 0 0 0 0
 unfolding parse_with lookups
 starts-empty least text reads t short table u =
     record {

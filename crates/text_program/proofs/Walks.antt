@@ -1,4 +1,5 @@
 -- Laws of reading an expression with its reads kept. Assumes nothing.
+use Rattle.std.specs.Prelude.{Result, Ok, Err}
 use mathlib.Core.Path.{◌≡◌, refl, ap, subst, ◌∙◌}
 use mathlib.Core.List.{List, ◌++◌, map-append, append-nil}
 use Prim.Native.Nat.{ℕ, zero, suc, ◌+◌, ◌*◌, ◌≤◌}
@@ -34,10 +35,7 @@ use Rattle.text_program.specs.Walks.{
 }
 use Rattle.text_program.specs.declared.Entry.{Entry}
 use Rattle.text_program.specs.declared.Step.{Step}
-use Rattle.text_program.specs.declared.Step.TheVariants as Step
 use Rattle.text_program.specs.declared.Walk.{Walk}
-use Rattle.text_program.specs.declared.Walked.{Walked}
-use Rattle.text_program.specs.declared.Walked.TheVariants as Walked
 
 pub moves-length : {l l' places : List ℕ} {next code lookups count to looks : ℕ} {w : Walk} →
     Moves next places code lookups l count to looks l' w →
@@ -72,21 +70,20 @@ pub alike : {xs ys : List ℕ} {a b c d n : ℕ} → xs ≡ ys → a ≡ b → c
 alike e f g = rw (e, f, g) refl
 
 -- What is refused, and what is passed over.
-pub walks-refused : {l l' : List ℕ} {count to looks : ℕ} {r : Walked} {f : Fault} (o : Outcome Outline) → o ≡ refused f →
-    r ≡ Walked.Refused f → Walks o l count to looks l' r
+pub walks-refused : {l l' : List ℕ} {count to looks : ℕ} {r : Result Walk Fault} {f : Fault} (o : Outcome Outline) →
+    o ≡ refused f → r ≡ Err f → Walks o l count to looks l' r
 unfolding WalksBy
 walks-refused o e g = record { by = rw e g }
 
-pub walks-over : {l l' : List ℕ} {count to looks : ℕ} {r : Walked} {w : Walk} (o : Outcome Outline) (x : Outline) → o ≡ accepted
-    x →
-    r ≡ Walked.Next w → Moves x.next x.places x.code x.lookups l count to looks l' w → Walks o l count to looks l' r
+pub walks-over : {l l' : List ℕ} {count to looks : ℕ} {r : Result Walk Fault} {w : Walk} (o : Outcome Outline) (x : Outline) →
+    o ≡ accepted x → r ≡ Ok w → Moves x.next x.places x.code x.lookups l count to looks l' w → Walks o l count to looks l' r
 unfolding WalksBy
 walks-over {w = w} o x e g m = record { by = rw e (w, g, m) }
 
 -- An expression that is refused is the answer.
-stop : (o : Outcome Outline) (k : Outline → Outcome Outline) {l l₁ l' l₂ : List ℕ} {c t k₀ c' t' k₁ : ℕ} {r : Walked}
+stop : (o : Outcome Outline) (k : Outline → Outcome Outline) {l l₁ l' l₂ : List ℕ} {c t k₀ c' t' k₁ : ℕ} {r : Result Walk Fault}
     {f : Fault} →
-    Walks o l c t k₀ l₁ r → r ≡ Walked.Refused f → Walks (o ▷ k) l' c' t' k₁ l₂ r
+    Walks o l c t k₀ l₁ r → r ≡ Err f → Walks (o ▷ k) l' c' t' k₁ l₂ r
 unfolding ◌▷◌ WalksBy
 stop (accepted x) k {r = r} {f = f} w g =
     let e = w.by.1 in
@@ -95,8 +92,8 @@ stop (accepted x) k {r = r} {f = f} w g =
 stop (refused q) k w g = record { by = w.by }
 
 -- After one that is passed over the rest decides.
-passes_on : (o p : Outcome Outline) {l l₁ l₂ : List ℕ} {c t s : ℕ} {r₁ r : Walked} {a : Walk} (k : ℕ → Outcome Outline) →
-    p ≡ (o ▷ λ x. k x.next ▷ λ y. accepted (followed x y)) → Walks o l c t s l₁ r₁ → r₁ ≡ Walked.Next a →
+passes_on : (o p : Outcome Outline) {l l₁ l₂ : List ℕ} {c t s : ℕ} {r₁ r : Result Walk Fault} {a : Walk}
+    (k : ℕ → Outcome Outline) → p ≡ (o ▷ λ x. k x.next ▷ λ y. accepted (followed x y)) → Walks o l c t s l₁ r₁ → r₁ ≡ Ok a →
     Walks (k a.at) l₁ a.reads a.code a.lookups l₂ r → Walks p l c t s l₂ r
 unfolding ◌▷◌ WalksBy
 passes_on (accepted x) p {l} {l₁} {l₂} {c} {t} {s} {r₁} {r} {a} k e w g v =
@@ -117,8 +114,8 @@ passes_on (refused f) p {r₁ = r₁} {a = a} k e w g v =
 
 -- Expressions one after another: none, a first one that is refused, and one with others after it.
 module _ (sub : ℕ → Outcome (Parsed Expr)) where
-  pub walks-none : {l : List ℕ} {count to looks : ℕ} {r : Walked} (at : ℕ) →
-      r ≡ Walked.Next (record { at = at; reads = count; code = to; lookups = looks }) → Walks (outlines sub 0 at) l count to
+  pub walks-none : {l : List ℕ} {count to looks : ℕ} {r : Result Walk Fault} (at : ℕ) →
+      r ≡ Ok (record { at = at; reads = count; code = to; lookups = looks }) → Walks (outlines sub 0 at) l count to
       looks l r
   unfolding outlines
   walks-none at e =
@@ -130,14 +127,14 @@ module _ (sub : ℕ → Outcome (Parsed Expr)) where
         holds = refl;
       })
 
-  pub walks-stop : (n at : ℕ) {l l₁ : List ℕ} {count to looks : ℕ} {r : Walked} {f : Fault} →
-      Walks (outline_of (sub at)) l count to looks l₁ r → r ≡ Walked.Refused f → Walks (outlines sub (suc n) at) l count to looks
+  pub walks-stop : (n at : ℕ) {l l₁ : List ℕ} {count to looks : ℕ} {r : Result Walk Fault} {f : Fault} →
+      Walks (outline_of (sub at)) l count to looks l₁ r → r ≡ Err f → Walks (outlines sub (suc n) at) l count to looks
       l₁ r
   unfolding outlines
   walks-stop n at w e = stop _ _ w e
 
-  pub walks-first : (n at : ℕ) {l l₁ l₂ : List ℕ} {count to looks : ℕ} {r₁ r : Walked} {a : Walk} →
-      Walks (outline_of (sub at)) l count to looks l₁ r₁ → r₁ ≡ Walked.Next a →
+  pub walks-first : (n at : ℕ) {l l₁ l₂ : List ℕ} {count to looks : ℕ} {r₁ r : Result Walk Fault} {a : Walk} →
+      Walks (outline_of (sub at)) l count to looks l₁ r₁ → r₁ ≡ Ok a →
       Walks (outlines sub n a.at) l₁ a.reads a.code a.lookups l₂ r → Walks (outlines sub (suc n) at) l count to
       looks l₂ r
   unfolding outlines
@@ -155,7 +152,7 @@ module _ (sub : ℕ → Outcome (Parsed Expr)) where
       go (refused f) = refl
 
 -- Where no depth is left.
-pub walks-deep : {l : List ℕ} {count to looks : ℕ} {r : Walked} (least d : ℕ) (text : List ℕ) (n at : ℕ) → d ≡ 0 →
+pub walks-deep : {l : List ℕ} {count to looks : ℕ} {r : Result Walk Fault} (least d : ℕ) (text : List ℕ) (n at : ℕ) → d ≡ 0 →
     r ≡ deep_of at (operator_here text at) → Walks (outlines (parse_expr least d text) (suc n) at) l count to looks l r
 unfolding parse_expr deep_of ◌▷◌
 walks-deep {l} {count} {to} {looks} {r} least zero text n at z e = go (operator_here text at) refl e
@@ -232,9 +229,9 @@ pub record Ahead (size room : ℕ) (w : Walk) : Type 0 where
   pub left : WalkRoom size w.at w.reads w.code w.lookups room
   pub inside : w.at ≤ size
 
-pub ahead : (least : ℕ) (text : List ℕ) {l l' : List ℕ} {at count to looks : ℕ} {r : Walked} {a : Walk} (d : ℕ) →
+pub ahead : (least : ℕ) (text : List ℕ) {l l' : List ℕ} {at count to looks : ℕ} {r : Result Walk Fault} {a : Walk} (d : ℕ) →
     WalkRoom (length text) at count to looks (length l) → Walks (outline_of (parse_expr least d text at)) l count to looks l' r →
-    r ≡ Walked.Next a →
+    r ≡ Ok a →
     Ahead (length text) (length l') a
 unfolding WalksBy
 ahead least text {l} {l'} {at} {count} {to} {looks} {r} {a} d h w e = go (parse_expr least d text at) refl w
@@ -276,13 +273,13 @@ room_after k h =
     }
 
 -- The step of an EQ from its expression's answer.
-abbrev pub equation_step : Entry → Walked → Step
-equation_step e (Walked.Next a) = Step.Adds e (record { at = a.at; reads = a.reads; code = a.code + 2; lookups = a.lookups })
-equation_step e (Walked.Refused f) = Step.Refused f
+abbrev pub equation_step : Entry → Result Walk Fault → Result Step Fault
+equation_step e (Ok a) = Ok (Step.Adds e (record { at = a.at; reads = a.reads; code = a.code + 2; lookups = a.lookups }))
+equation_step e (Err f) = Err f
 
-pub equation-walks : (o : Outcome (Parsed Expr)) {l l' : List ℕ} {count to looks : ℕ} {r : Walked} →
-    Walks (outline_of o) l count to looks l' r → (e : Entry) {s : Step} → s ≡ equation_step e r → WalksEquation o e l count to
-    looks l' s
+pub equation-walks : (o : Outcome (Parsed Expr)) {l l' : List ℕ} {count to looks : ℕ} {r : Result Walk Fault} →
+    Walks (outline_of o) l count to looks l' r → (e : Entry) {s : Result Step Fault} → s ≡ equation_step e r →
+    WalksEquation o e l count to looks l' s
 unfolding WalksBy EquationBy
 equation-walks (accepted x) w e h =
     let a = w.by.0 in

@@ -1,5 +1,5 @@
 -- What one step of the program reader says of the definition.
-use Rattle.std.specs.Prelude.{ℕ, suc, ◌+◌, ◌*◌, ◌≤◌, ◌<◌, Bool, not, List, [], ◌≡◌, length}
+use Rattle.std.specs.Prelude.{Result, Ok, Err, is_none, ℕ, suc, ◌+◌, ◌*◌, ◌≤◌, ◌<◌, List, [], ◌≡◌, length}
 use Rattle.model.specs.Rules.Image.{signal_code}
 use Rattle.model.specs.Rules.Outcome.{accepted, refused}
 use Rattle.model.specs.Rules.Program.{
@@ -18,19 +18,19 @@ use Rattle.model.specs.Rules.Program.{
   body_lookups,
 }
 use Rattle.model.specs.Rules.Table.{Row}
+use Rattle.model.specs.declared.Fault.{Fault}
 use Rattle.text_program.specs.Walks.{places_of, Moves}
 use Rattle.text_program.specs.declared.Entry.{Entry}
-use Rattle.text_program.specs.declared.Entry.TheVariants as Entry
 use Rattle.text_program.specs.declared.Step.{Step}
-use Rattle.text_program.specs.declared.Step.TheVariants as Step
+use Rattle.text_program.specs.declared.Tables.{Tables}
 use Rattle.text_program.specs.declared.Walk.{Walk}
 
--- How much a program has so far.
-pub record Counts (p : Program) (signals chains rows : ℕ) (capped : Bool) : Type 0 where
-  pub signals-are : count p ≡ signals
-  pub chains-are : length p.chains ≡ chains
-  pub rows_are : length p.rows ≡ rows
-  pub cap-is : is_unlimited p.cap ≡ not capped
+-- The tables tell how much the program has so far.
+pub record Counts (p : Program) (t : Tables) : Type 0 where
+  pub signals-are : count p ≡ t.signals
+  pub chains-are : length p.chains ≡ t.chains
+  pub rows_are : length p.rows ≡ t.rows
+  pub cap-is : is_unlimited p.cap ≡ is_none t.cap
 
 -- q is p with a signal that stands at `at` and takes this label, its reads at `places`, its code of so many bytes, with so many
 -- TABLEs. The text goes on at `next`.
@@ -99,9 +99,9 @@ pub record Added (least : ℕ) (text : List ℕ) (at label : ℕ) (p : Program) 
       parse_commands least (suc left) text at label p ≡ parse_commands least left text w.at (label_after e) program
 
 -- What the definition makes of the command at `at`, after what p has and a TAG's label.
-unfoldable pub Stepped : ℕ → List ℕ → ℕ → ℕ → Program → List ℕ → ℕ → ℕ → ℕ → List ℕ → Step → Type 0
-Stepped least text at label p l count to looks l' (Step.Adds e w) = Added least text at label p e l count to looks l' w
-Stepped least text at label p l count to looks l' Step.End =
+unfoldable pub Stepped : ℕ → List ℕ → ℕ → ℕ → Program → List ℕ → ℕ → ℕ → ℕ → List ℕ → Result Step Fault → Type 0
+Stepped least text at label p l count to looks l' (Ok (Step.Adds e w)) = Added least text at label p e l count to looks l' w
+Stepped least text at label p l count to looks l' (Ok Step.End) =
     ((left : ℕ) → parse_commands least (suc left) text at label p ≡ accepted p) × (l' ≡ l)
-Stepped least text at label p l count to looks l' (Step.Refused f) =
+Stepped least text at label p l count to looks l' (Err f) =
     (left : ℕ) → parse_commands least (suc left) text at label p ≡ refused f

@@ -1,5 +1,5 @@
 -- What the tables of a program text say.
-use Rattle.std.specs.Prelude.{ℕ, suc, ◌+◌, ◌≤◌, ◌<◌, Bool, false, cond, List, [], ◌≡◌, length, get_or}
+use Rattle.std.specs.Prelude.{Option, None, Some, Result, Ok, Err, ℕ, suc, ◌+◌, ◌≤◌, ◌<◌, List, [], ◌≡◌, length, get_or, set, ⊤}
 use Rattle.model.specs.Rules.Outcome.{Outcome, accepted, refused}
 use Rattle.model.specs.Rules.Image.{signal_code}
 use Rattle.model.specs.Rules.Program.{
@@ -22,9 +22,10 @@ use Rattle.model.specs.Says.Grammar.{LegalProgram}
 use Rattle.model.specs.declared.Mode.TheVariants.{Exists}
 use Rattle.text_program.specs.Steps.{Counts}
 use Rattle.text_program.specs.Walks.{places_of}
-use Rattle.basics.specs.declared.Judged.{Judged}
-use Rattle.basics.specs.declared.Judged.TheVariants as Judged
+use Rattle.model.specs.declared.Fault.{Fault}
+use Rattle.text_program.specs.declared.Entry.{Entry}
 use Rattle.text_program.specs.declared.Tables.{Tables}
+use Rattle.text_program.specs.declared.Walk.{Walk}
 
 abbrev pub no_chain : Chain
 no_chain = record { place = 0; mode = Exists; bound = 0; links = [] }
@@ -33,8 +34,9 @@ abbrev pub chain_at : Program → ℕ → Chain
 chain_at p j = get_or p.chains j no_chain
 
 -- The CAP of the tables.
-abbrev pub cap_of : Bool → ℕ → Limit
-cap_of capped n = cond capped (limit n) unlimited
+abbrev pub cap_of : Option ℕ → Limit
+cap_of (Some n) = limit n
+cap_of None = unlimited
 
 -- A table has the period of every signal by its number, or its weight, or its label.
 abbrev pub PeriodsOf : Program → List ℕ → Type 0
@@ -71,7 +73,7 @@ pub record ReadsOf (p : Program) (reads firsts : List ℕ) : Type 0 where
 
 -- The tables are those of the program p.
 pub record TablesOf (p : Program) (t : Tables) : Type 0 where
-  pub counts : Counts p t.signals t.chains t.rows t.capped
+  pub counts : Counts p t
   pub places : (x : ℕ) → x < count p → get_or t.places x 0 ≡ (signal_at p x).place
   pub periods : PeriodsOf p t.periods
   pub weights : WeightsOf p t.weights
@@ -79,7 +81,7 @@ pub record TablesOf (p : Program) (t : Tables) : Type 0 where
   pub codes : Sums code_in p t.codes
   pub starts : (j : ℕ) → j < length p.chains → get_or t.starts j 0 ≡ (chain_at p j).place
   pub lengths : (j : ℕ) → j < length p.chains → get_or t.lengths j 0 ≡ length (chain_at p j).links
-  pub cap : p.cap ≡ cap_of t.capped t.limit
+  pub cap : p.cap ≡ cap_of t.cap
   pub offsets : (n : ℕ) → n < length p.rows → get_or t.offsets n 0 ≡ (row_at p.rows n).place
   pub lookups-are : t.lookups ≡ lookups p.signals
 
@@ -95,13 +97,105 @@ pub record Space (t : Tables) : Type 0 where
   pub lengths : length t.lengths ≡ 16
   pub offsets : length t.offsets ≡ 32
 
--- Nothing is read, and the judgement is j.
-pub record Unread (j : Judged) (t : Tables) : Type 0 where
-  pub judged-is : t.judged ≡ j
+-- The tables with a signal more, a chain, a CAP or a row.
+abbrev pub signal_added : Tables → ℕ → ℕ → ℕ → ℕ → ℕ → ℕ → ℕ → Tables
+signal_added t at label period weight n to looks =
+    record {
+      signals = t.signals + 1;
+      places = set t.places t.signals at;
+      periods = set t.periods t.signals period;
+      weights = set t.weights t.signals weight;
+      labels = set t.labels t.signals label;
+      firsts = set t.firsts (t.signals + 1) n;
+      codes = set t.codes (t.signals + 1) to;
+      chains = t.chains;
+      starts = t.starts;
+      lengths = t.lengths;
+      cap = t.cap;
+      rows = t.rows;
+      offsets = t.offsets;
+      lookups = looks;
+    }
+
+abbrev pub chain_added : Tables → ℕ → ℕ → Tables
+chain_added t at k =
+    record {
+      signals = t.signals;
+      places = t.places;
+      periods = t.periods;
+      weights = t.weights;
+      labels = t.labels;
+      firsts = t.firsts;
+      codes = t.codes;
+      chains = t.chains + 1;
+      starts = set t.starts t.chains at;
+      lengths = set t.lengths t.chains k;
+      cap = t.cap;
+      rows = t.rows;
+      offsets = t.offsets;
+      lookups = t.lookups;
+    }
+
+abbrev pub cap_added : Tables → ℕ → Tables
+cap_added t n =
+    record {
+      signals = t.signals;
+      places = t.places;
+      periods = t.periods;
+      weights = t.weights;
+      labels = t.labels;
+      firsts = t.firsts;
+      codes = t.codes;
+      chains = t.chains;
+      starts = t.starts;
+      lengths = t.lengths;
+      cap = Some n;
+      rows = t.rows;
+      offsets = t.offsets;
+      lookups = t.lookups;
+    }
+
+abbrev pub row_added : Tables → ℕ → Tables
+row_added t at =
+    record {
+      signals = t.signals;
+      places = t.places;
+      periods = t.periods;
+      weights = t.weights;
+      labels = t.labels;
+      firsts = t.firsts;
+      codes = t.codes;
+      chains = t.chains;
+      starts = t.starts;
+      lengths = t.lengths;
+      cap = t.cap;
+      rows = t.rows + 1;
+      offsets = set t.offsets t.rows at;
+      lookups = t.lookups;
+    }
+
+-- The tables with an entry more, which stands at `at` behind a label.
+abbrev pub with_entry : Tables → ℕ → ℕ → Entry → Walk → Tables
+with_entry t at label (Entry.Signal period weight) w = signal_added t at label period weight w.reads w.code w.lookups
+with_entry t at label (Entry.Chain k) w = chain_added t at k
+with_entry t at label (Entry.Cap m) w = cap_added t m
+with_entry t at label (Entry.Label given) w = t
+with_entry t at label Entry.Row w = row_added t at
+
+-- The tables have space for an entry, and its numbers fit theirs.
+unfoldable pub EntryFits : Tables → Entry → Walk → Type 0
+EntryFits t (Entry.Signal period weight) w = (t.signals < 64) × (w.reads < 65536) × (w.code < 65536)
+EntryFits t (Entry.Chain k) w = t.chains < 16
+EntryFits t (Entry.Cap m) w = ⊤
+EntryFits t (Entry.Label given) w = ⊤
+EntryFits t Entry.Row w = t.rows < 32
+
+-- Nothing is read.
+pub record Unread (t : Tables) : Type 0 where
   pub space : Space t
   pub no-signals : t.signals ≡ 0
   pub no-chains : t.chains ≡ 0
-  pub no-cap : t.capped ≡ false
+  pub no-cap : t.cap ≡ None
   pub no_rows : t.rows ≡ 0
   pub no-lookups : t.lookups ≡ 0
   pub first : get_or t.firsts 0 0 ≡ 0
@@ -133,7 +227,7 @@ pub record SlotsOf (p : Program) (s : Schedule) (order phases ranks : List ℕ) 
   pub ranks-are : (x : ℕ) → x < count p → get_or ranks x 0 ≡ rank s.order x
   pub all-put : length s.order ≡ count p
 
--- The answer is the definition's refusal, or the tables are those of the program read.
-unfoldable pub ProgramReads : Outcome Program → List ℕ → Tables → Type 0
-ProgramReads (accepted p) reads t = (t.judged ≡ Judged.Fine) × TablesOf p t × ReadsOf p reads t.firsts
-ProgramReads (refused f) reads t = t.judged ≡ Judged.Refused f
+-- The answer is the definition's refusal, or the tables of the program read.
+unfoldable pub ProgramReads : Outcome Program → List ℕ → Result Tables Fault → Type 0
+ProgramReads (accepted p) reads r = (t : Tables) × (r ≡ Ok t) × TablesOf p t × ReadsOf p reads t.firsts
+ProgramReads (refused f) reads r = r ≡ Err f

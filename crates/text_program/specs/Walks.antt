@@ -1,5 +1,5 @@
 -- What reading an expression leaves: where the text goes on, the places of its reads in a table, and the length of its code.
-use Rattle.std.specs.Prelude.{ℕ, zero, suc, ◌+◌, ◌*◌, ◌≤◌, List, [], ◌∷◌, ◌++◌, map, ◌≡◌, ℤ, length}
+use Rattle.std.specs.Prelude.{Result, Ok, Err, ℕ, zero, suc, ◌+◌, ◌*◌, ◌≤◌, List, [], ◌∷◌, ◌++◌, map, ◌≡◌, ℤ, length}
 use Rattle.std.proofs.lemmas.List.Edits.{sets}
 use Rattle.model.specs.Rules.Image.{expr_code}
 use Rattle.model.specs.Rules.Outcome.{Outcome, accepted, refused, refuse, fault, ◌▷◌, Parsed}
@@ -7,14 +7,11 @@ use Rattle.model.specs.Rules.Program.{Read, Expr, reads_of, expr_lookups}
 use Rattle.model.specs.Rules.Width.{in_expression, read_width, in_code}
 use Rattle.model.specs.declared.Kind.{Kind}
 use Rattle.model.specs.declared.Operator.{Operator}
-use Rattle.model.specs.declared.Operator.TheVariants as Operator
 use Rattle.model.specs.declared.Sampled.{Sampled}
 use Rattle.text_program.specs.declared.Entry.{Entry}
 use Rattle.text_program.specs.declared.Step.{Step}
-use Rattle.text_program.specs.declared.Step.TheVariants as Step
 use Rattle.text_program.specs.declared.Walk.{Walk}
-use Rattle.text_program.specs.declared.Walked.{Walked}
-use Rattle.text_program.specs.declared.Walked.TheVariants as Walked
+use Rattle.model.specs.declared.Fault.{Fault}
 
 -- Where reads stand.
 abbrev pub places_of : List Read → List ℕ
@@ -98,27 +95,27 @@ pub record LeafRoom (o : Operator) (size at count to looks room : ℕ) : Type 0 
   pub read-inside : (kind : Kind) (x : Sampled) → o ≡ Operator.Read kind x → at + read_width kind ≤ size
 
 -- The answer is the refusal, or goes on after what is passed over with its reads kept.
-unfoldable pub WalksBy : Outcome Outline → List ℕ → ℕ → ℕ → ℕ → List ℕ → Walked → Type 0
+unfoldable pub WalksBy : Outcome Outline → List ℕ → ℕ → ℕ → ℕ → List ℕ → Result Walk Fault → Type 0
 WalksBy (accepted x) l count to looks l' r =
-    (w : Walk) × (r ≡ Walked.Next w) × Moves x.next x.places x.code x.lookups l count to looks l' w
-WalksBy (refused f) l count to looks l' r = r ≡ Walked.Refused f
+    (w : Walk) × (r ≡ Ok w) × Moves x.next x.places x.code x.lookups l count to looks l' w
+WalksBy (refused f) l count to looks l' r = r ≡ Err f
 
-pub record Walks (o : Outcome Outline) (l : List ℕ) (count to looks : ℕ) (l' : List ℕ) (r : Walked) : Type 0 where
+pub record Walks (o : Outcome Outline) (l : List ℕ) (count to looks : ℕ) (l' : List ℕ) (r : Result Walk Fault) : Type 0 where
   pub by : WalksBy o l count to looks l' r
 
 -- The same of an EQ, which has a STORE after it.
-unfoldable pub EquationBy : Outcome (Parsed Expr) → Entry → List ℕ → ℕ → ℕ → ℕ → List ℕ → Step → Type 0
+unfoldable pub EquationBy : Outcome (Parsed Expr) → Entry → List ℕ → ℕ → ℕ → ℕ → List ℕ → Result Step Fault → Type 0
 EquationBy (accepted x) e l count to looks l' r =
-    (w : Walk) × (r ≡ Step.Adds e w) ×
+    (w : Walk) × (r ≡ Ok (Step.Adds e w)) ×
     Moves x.next (places_of (reads_of x.value)) (length (expr_code x.value) + in_code 0x5F) (expr_lookups x.value) l
     count to looks l' w
-EquationBy (refused f) e l count to looks l' r = r ≡ Step.Refused f
+EquationBy (refused f) e l count to looks l' r = r ≡ Err f
 
-pub record WalksEquation (o : Outcome (Parsed Expr)) (e : Entry) (l : List ℕ) (count to looks : ℕ) (l' : List ℕ) (r : Step) : Type
-    0 where
+pub record WalksEquation (o : Outcome (Parsed Expr)) (e : Entry) (l : List ℕ) (count to looks : ℕ) (l' : List ℕ)
+    (r : Result Step Fault) : Type 0 where
   pub by : EquationBy o e l count to looks l' r
 
 -- The refusal where no depth is left.
-unfoldable pub deep_of : ℕ → Outcome (Unit {0}) → Walked
-deep_of at (accepted a) = Walked.Refused (fault 4 at)
-deep_of at (refused f) = Walked.Refused f
+unfoldable pub deep_of : ℕ → Outcome (Unit {0}) → Result Walk Fault
+deep_of at (accepted a) = Err (fault 4 at)
+deep_of at (refused f) = Err f

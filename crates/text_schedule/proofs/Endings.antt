@@ -1,4 +1,5 @@
 -- How the reading of PUTs ends and goes on. Assumes nothing.
+use Rattle.std.specs.Prelude.{Result, Ok, Err}
 use mathlib.Core.Path.{◌≡◌, refl, subst}
 use mathlib.Core.Bool.{Bool, true, false, cond}
 use mathlib.Core.List.{List, [], ◌∷◌, ◌++◌}
@@ -14,20 +15,19 @@ use Rattle.model.specs.declared.ScheduleCommand.{ScheduleCommand}
 use Rattle.model.specs.declared.ScheduleCommand.TheVariants as ScheduleCommand
 use Rattle.model.specs.contracts.ScheduleCommand.{enum}
 use Rattle.basics.specs.Judgement.{Answers}
-use Rattle.basics.specs.declared.Judged.{Judged}
-use Rattle.basics.specs.declared.Judged.TheVariants as Judged
+use Rattle.model.specs.declared.Fault.{Fault}
 use Rattle.text_schedule.specs.Slots.{end_judged}
 
 abbrev stops : List ℕ
 stops = 0 ∷ 1 ∷ 2 ∷ []
 
-abbrev EndsAt : Outcome (Parsed (List Put)) → ℕ → Judged → Type 0
-EndsAt o at j = Answers (λ x. x.next ≡ at) o j
+abbrev pub EndsAt : Outcome (Parsed (List Put)) → ℕ → Result (Unit {0}) Fault → Type 0
+EndsAt o at j = Answers (λ x _. x.next ≡ at) o j
 
 end_by : (text : List ℕ) (at : ℕ) (puts : List Put) (b : Bool) →
-    EndsAt (provided b 11 (at + 1) ▷ λ _. parsed puts at) at (cond b Judged.Fine (Judged.Refused (fault 11 (at + 1))))
+    EndsAt (provided b 11 (at + 1) ▷ λ _. parsed puts at) at (cond b (Ok tt) (Err (fault 11 (at + 1))))
 unfolding Answers provided ◌▷◌
-end_by text at puts true = (refl, refl)
+end_by text at puts true = (tt, refl, refl)
 end_by text at puts false = refl
 
 -- A command that is no PUT is the answer.

@@ -1,4 +1,5 @@
 -- The tables after each PUT, and what going through all of them answers. Assumes nothing.
+use Rattle.std.specs.Prelude.{Result, Ok, Err}
 use mathlib.Core.Path.{◌≡◌, refl, sym, ap, ap₂, ◌∙◌}
 use mathlib.Core.Bool.{Bool, true, false, cond, not, ◌||◌, false≢true}
 use mathlib.Core.List.{List, [], ◌∷◌, ◌++◌, append_assoc, append-nil}
@@ -35,8 +36,6 @@ use Rattle.model.specs.Says.Grammar.{SpellsPuts}
 use Rattle.model.proofs.Texts.Puts.{puts-end, puts-spelled, placed-ordered}
 use Rattle.model.proofs.Texts.Written.{put-decoded}
 use Rattle.text_program.specs.Tables.{SlotsOf}
-use Rattle.basics.specs.declared.Judged.{Judged}
-use Rattle.basics.specs.declared.Judged.TheVariants as Judged
 use Rattle.text_program.proofs.Filled.{filled}
 use Rattle.text_schedule.specs.Slots.{signals_put, SlotsAfter, put_added, judged_by, PutJudged, all_ranked, ScheduledAs}
 use Rattle.text_schedule.specs.declared.Slots.{Slots}
@@ -238,24 +237,24 @@ puts-at p (SpellsPuts.put {at = at} {signal = s} {phase = f} {qs = qs} e r) done
     (put-at p done q n h) (puts-at p r (done ++ (q ∷ [])) n (omega arith))
 
 -- A judgement tells the faults, of which a PUT has one at most.
-fine-none : (fs : List Fault) → Judged.Fine ≡ judged_by fs → fs ≡ []
+fine-none : (fs : List Fault) → (Ok tt) ≡ judged_by fs → fs ≡ []
 fine-none [] e = refl
 fine-none (f ∷ fs) e = let z : ◌≡◌ {A = ℕ} 0 1 = cc in absurd (omega arith)
 
-fine-refused : {f : Fault} → Judged.Refused f ≡ Judged.Fine → ⊥
+fine-refused : {f : Fault} → ◌≡◌ {A = Result (Unit {0}) Fault} (Err f) (Ok tt) → ⊥
 fine-refused {f} e = let z : ◌≡◌ {A = ℕ} 0 1 = cc in omega arith
 
-one-fault : (p : Program) (done : List Put) (q : Put) (f : Fault) → Judged.Refused f ≡ judged_by (put_faults p done q) →
+one-fault : (p : Program) (done : List Put) (q : Put) (f : Fault) → Err f ≡ judged_by (put_faults p done q) →
     (put_faults p done q ≡ f ∷ []) × (f.place ≡ q.place)
 unfolding put_faults
 one-fault p done q f = go (ltb q.signal (count p)) (is_put done q.signal) (ltb q.phase (signal_at p q.signal).period)
   where
-    same : (n : ℕ) → Judged.Refused f ≡ Judged.Refused (fault n q.place) →
+    same : (n : ℕ) → ◌≡◌ {A = Result (Unit {0}) Fault} (Err f) (Err (fault n q.place)) →
         (fault n q.place ∷ [] ≡ f ∷ []) × (f.place ≡ q.place)
     same n e = let z : f ≡ fault n q.place = cc in (ap (◌∷ []) (sym z), ap (λ g. g.place) z)
 
     go : (a b c : Bool) →
-        Judged.Refused f ≡
+        Err f ≡
         judged_by (cond a (cond b (fault 12 q.place ∷ []) (cond c [] (fault 13 q.place ∷ []))) (fault 12 q.place ∷ [])) →
         (cond a (cond b (fault 12 q.place ∷ []) (cond c [] (fault 13 q.place ∷ []))) (fault 12 q.place ∷ []) ≡ f ∷ []) ×
         (f.place ≡ q.place)
@@ -303,7 +302,7 @@ module _ (text : List ℕ) (p : Program) (o : Parsed (List Put)) (at signal phas
       (n.more, n.is ∙ ap₂ (λ x y. record { place = at; signal = x; phase = y } ∷ n.more) a b, n.spelled)
 
   -- Where it is refused, that is the answer.
-  pub put_refused : (f : Fault) → Judged.Refused f ≡ judged_by (put_faults p g.done here) → placed p o ≡ refused f
+  pub put_refused : (f : Fault) → Err f ≡ judged_by (put_faults p g.done here) → placed p o ≡ refused f
   unfolding placed puts_faults ◌▷◌
   put_refused f e =
       let h = here-is in
@@ -317,7 +316,7 @@ module _ (text : List ℕ) (p : Program) (o : Parsed (List Put)) (at signal phas
       rw (z, l)
 
   -- Where it is fine, one more is done.
-  pub put-fine : signal < 64 → length g.done < 64 → Judged.Fine ≡ judged_by (put_faults p g.done here) →
+  pub put-fine : signal < 64 → length g.done < 64 → (Ok tt) ≡ judged_by (put_faults p g.done here) →
       Progress text p o (at + 3) (put_added t signal phase)
   unfolding puts_faults
   put-fine low few e =
@@ -380,8 +379,8 @@ module _ (text : List ℕ) (p : Program) (o : Parsed (List Put)) (at : ℕ) (t :
 
 -- The judgement of a PUT, by what a test of it found.
 module _ (t : Slots) (periods : List ℕ) (n : ℕ) (q : Put) where
-  abbrev refusal : ℕ → Judged
-  refusal number = Judged.Refused (fault number q.place)
+  abbrev refusal : ℕ → Result (Unit {0}) Fault
+  refusal number = Err (fault number q.place)
 
   pub put-undeclared : n ≤ q.signal → PutJudged t periods n q (refusal 12)
   unfolding put_faults
@@ -422,7 +421,7 @@ module _ (t : Slots) (periods : List ℕ) (n : ℕ) (q : Put) where
             declared = λ e. absurd (fine-refused e);
           }
 
-      pub put-good : q.phase < get_or periods q.signal 0 → PutJudged t periods n q Judged.Fine
+      pub put-good : q.phase < get_or periods q.signal 0 → PutJudged t periods n q (Ok tt)
       unfolding put_faults
       put-good gt =
           record {
@@ -444,16 +443,3 @@ pub progress_start : (text : List ℕ) (p : Program) (o : Parsed (List Put)) (t 
     SlotsAfter [] t → Progress text p o 0 t
 progress_start text p o t e h =
     record { done = []; rest = o.value; whole = refl; spelled = puts-spelled text o e; faults = refl; after = h }
-
--- The answers.
-pub scheduled-refused : (p : Program) (o : Outcome Schedule) (t : Slots) (f : Fault) → o ≡ refused f →
-    t.judged ≡ Judged.Refused f →
-    ScheduledAs p o t
-unfolding ScheduledAs
-scheduled-refused p o t f e h = rw e h
-
-pub scheduled-fine : (p : Program) (o : Outcome Schedule) (t : Slots) (s : Schedule) → o ≡ accepted s →
-    t.judged ≡ Judged.Fine →
-    (t.puts ≡ length s.order) × SlotsOf p s t.order t.phases t.ranks → ScheduledAs p o t
-unfolding ScheduledAs
-scheduled-fine p o t s e h g = rw e (h, g.0, g.1)

@@ -1,5 +1,5 @@
 -- The tables of a schedule, while its PUTs are gone through and after.
-use Rattle.std.specs.Prelude.{ℕ, ◌+◌, ◌<◌, Bool, true, false, cond, not, List, [], ◌∷◌, map, ◌≡◌, leb, eqb, length, get_or, set}
+use Rattle.std.specs.Prelude.{Result, Ok, Err, ℕ, ◌+◌, ◌<◌, Bool, true, false, cond, not, List, [], ◌∷◌, map, ◌≡◌, leb, eqb, length, get_or, set}
 use Rattle.model.specs.Rules.Outcome.{Outcome, accepted, refused, fault, Parsed}
 use Rattle.model.specs.Rules.Program.{Program, count}
 use Rattle.model.specs.Rules.Reads.{rank}
@@ -10,21 +10,14 @@ use Rattle.model.specs.declared.ScheduleCommand.{ScheduleCommand}
 use Rattle.model.specs.declared.ScheduleCommand.TheVariants as ScheduleCommand
 use Rattle.text_program.specs.Tables.{PeriodsOf, SlotsOf}
 use Rattle.basics.specs.Judgement.{Answers}
-use Rattle.basics.specs.declared.Judged.{Judged}
-use Rattle.basics.specs.declared.Judged.TheVariants as Judged
-use Rattle.text_schedule.specs.declared.Ended.{Ended}
 use Rattle.text_schedule.specs.declared.Slots.{Slots}
 
 -- The judgement at a command that is no PUT; at a PUT nobody asks.
-unfoldable pub end_judged : List ℕ → ℕ → ScheduleCommand → Judged
-end_judged text at ScheduleCommand.EndsEarly = Judged.Refused (fault 11 (length text))
-end_judged text at ScheduleCommand.Unknown = Judged.Refused (fault 11 at)
-end_judged text at ScheduleCommand.End = cond (leb (length text) (at + 1)) Judged.Fine (Judged.Refused (fault 11 (at + 1)))
-end_judged text at (ScheduleCommand.Put signal phase) = Judged.Refused (fault 11 at)
-
--- The answer is the definition's: where END stands, or the refusal.
-abbrev pub EndedAt : Outcome (Parsed (List Put)) → Ended → Type 0
-EndedAt o r = Answers (λ puts. puts.next ≡ r.at) o r.judged
+unfoldable pub end_judged : List ℕ → ℕ → ScheduleCommand → Result (Unit {0}) Fault
+end_judged text at ScheduleCommand.EndsEarly = Err (fault 11 (length text))
+end_judged text at ScheduleCommand.Unknown = Err (fault 11 at)
+end_judged text at ScheduleCommand.End = cond (leb (length text) (at + 1)) (Ok tt) (Err (fault 11 (at + 1)))
+end_judged text at (ScheduleCommand.Put signal phase) = Err (fault 11 at)
 
 -- Every signal has a rank.
 unfoldable pub all_ranked : List ℕ → ℕ → Bool
@@ -47,7 +40,6 @@ pub record SlotsAfter (done : List Put) (t : Slots) : Type 0 where
 abbrev pub put_added : Slots → ℕ → ℕ → Slots
 put_added t signal phase =
     record {
-      judged = t.judged;
       puts = t.puts + 1;
       order = set t.order t.puts signal;
       phases = set t.phases signal phase;
@@ -55,21 +47,19 @@ put_added t signal phase =
     }
 
 -- The judgement of a PUT that has these faults.
-abbrev pub judged_by : List Fault → Judged
-judged_by [] = Judged.Fine
-judged_by (f ∷ fs) = Judged.Refused f
+abbrev pub judged_by : List Fault → Result (Unit {0}) Fault
+judged_by [] = Ok tt
+judged_by (f ∷ fs) = Err f
 
 -- The judgement of a PUT after those of the tables.
-pub record PutJudged (t : Slots) (periods : List ℕ) (n : ℕ) (q : Put) (r : Judged) : Type 0 where
+pub record PutJudged (t : Slots) (periods : List ℕ) (n : ℕ) (q : Put) (r : Result (Unit {0}) Fault) : Type 0 where
   pub judged : (p : Program) (done : List Put) → count p ≡ n → PeriodsOf p periods → SlotsAfter done t → length done < 64 →
       r ≡ judged_by (put_faults p done q)
-  pub declared : r ≡ Judged.Fine → q.signal < n
+  pub declared : r ≡ Ok tt → q.signal < n
 
 -- The answer is the definition's refusal, or the tables are those of the schedule placed.
-unfoldable pub ScheduledAs : Program → Outcome Schedule → Slots → Type 0
-ScheduledAs p (accepted s) t =
-    (t.judged ≡ Judged.Fine) × (t.puts ≡ length s.order) × SlotsOf p s t.order t.phases t.ranks
-ScheduledAs p (refused f) t = t.judged ≡ Judged.Refused f
+abbrev pub ScheduledAs : Program → Outcome Schedule → Result Slots Fault → Type 0
+ScheduledAs p o r = Answers (λ s t. (t.puts ≡ length s.order) × SlotsOf p s t.order t.phases t.ranks) o r
 
-abbrev pub Scheduled : Program → Parsed (List Put) → Slots → Type 0
-Scheduled p o t = ScheduledAs p (placed p o) t
+abbrev pub Scheduled : Program → Parsed (List Put) → Result Slots Fault → Type 0
+Scheduled p o r = ScheduledAs p (placed p o) r

@@ -1,4 +1,5 @@
 -- Classes of bytes, and the tokens of a text byte by byte. Assumes nothing.
+use Rattle.std.specs.Prelude.{Some, None}
 use Prim.Native.Nat.{ℕ, suc, ◌+◌, ◌-◌, ◌*◌, ◌^◌, ◌≤◌, ◌<◌, min}
 use mathlib.Core.Bool.{Bool, true, false, cond, not, ◌&&◌, ◌||◌}
 use mathlib.Core.List.{List, [], ◌∷◌, ◌++◌}
@@ -6,7 +7,7 @@ use mathlib.Core.Path.{◌≡◌, refl, sym, ap, ◌∙◌}
 use native.Mathlib.Numerals.{add-one}
 use native.Mathlib.Omega.{arith}
 use borrow.Author.Tests.{eqb-true, ne_eqb, le-leb, lt-leb}
-use lib.Dec.{eqb, leb, leb-suc-suc}
+use lib.Dec.{eqb, leb-suc-suc}
 use lib.ListN.{length, get_or, take, drop, drop_of_length-le, length-drop}
 use lib.Seq.{drop-cons, take-suc, get_or-drop}
 use Rattle.model.specs.Rules.TextForm.{
@@ -30,7 +31,6 @@ use Rattle.model.specs.Rules.TextForm.{
 }
 use Rattle.model.specs.Rules.Width.{within}
 use Rattle.model.specs.Rules.Word.{byte_at}
-use Rattle.model.specs.declared.Found.TheVariants.{At, Nowhere}
 use Rattle.text_token.specs.Scanning.{is_other, starts_token, scan_at, comment_after, tokens_at, held_number, has_zero}
 
 -- A comment goes on up to a newline, and starts with a semicolon.
@@ -157,12 +157,12 @@ module _ (text : List ℕ) (i : ℕ) where
 held-from : (v u : ℕ) (ds : List ℕ) → min v (2 ^ 32) ≡ min u (2 ^ 32) → held_number (number_from v ds) ≡ held_number
     (number_from u ds)
 unfolding number_from
-held-from v u [] e = ap At e
+held-from v u [] e = ap Some e
 held-from v u (d ∷ ds) e = go (within 48 57 d) (held-from (10 * v + (d - 48)) (10 * u + (d - 48)) ds (omega arith))
   where
     go : (b : Bool) → held_number (number_from (10 * v + (d - 48)) ds) ≡ held_number (number_from (10 * u + (d - 48)) ds) →
-        held_number (elim b [ true ↦ number_from (10 * v + (d - 48)) ds | false ↦ Nowhere ]) ≡
-        held_number (elim b [ true ↦ number_from (10 * u + (d - 48)) ds | false ↦ Nowhere ])
+        held_number (elim b [ true ↦ number_from (10 * v + (d - 48)) ds | false ↦ None ]) ≡
+        held_number (elim b [ true ↦ number_from (10 * u + (d - 48)) ds | false ↦ None ])
     go true q = q
     go false q = refl
 
@@ -172,7 +172,7 @@ module _ (token : List ℕ) (v i : ℕ) where
 
   digits-by : i < length token → (b : Bool) → within 48 57 digit_here ≡ b →
       number_from v (drop i token) ≡
-      elim b [ true ↦ number_from (10 * v + (digit_here - 48)) (drop (i + 1) token) | false ↦ Nowhere ]
+      elim b [ true ↦ number_from (10 * v + (digit_here - 48)) (drop (i + 1) token) | false ↦ None ]
   unfolding number_from
   digits-by lt true e = rw (drop-cons token i 0 lt, add-one) (rw (e, number_from) refl)
   digits-by lt false e = rw (drop-cons token i 0 lt) (rw (e, number_from) refl)
@@ -184,38 +184,23 @@ module _ (token : List ℕ) (v i : ℕ) where
       ap held_number (digits-by lt true (rw (le-leb 48 digit_here low, le-leb digit_here 57 high) refl)) ∙
       held-from _ _ (drop (i + 1) token) (omega arith)
 
-  pub digits_low : i < length token → digit_here < 48 → held_number (number_from v (drop i token)) ≡ Nowhere
+  pub digits_low : i < length token → digit_here < 48 → held_number (number_from v (drop i token)) ≡ None
   digits_low lt low = ap held_number (digits-by lt false (rw (lt-leb 48 digit_here low) refl))
 
-  pub digits-high : i < length token → 57 < digit_here → held_number (number_from v (drop i token)) ≡ Nowhere
+  pub digits-high : i < length token → 57 < digit_here → held_number (number_from v (drop i token)) ≡ None
   digits-high lt high = ap held_number (digits-by lt false (rw (le-leb 48 digit_here (omega arith), lt-leb digit_here 57 high) refl))
 
-  pub digits-end : length token ≤ i → v ≤ 2 ^ 32 → held_number (number_from v (drop i token)) ≡ At v
+  pub digits-end : length token ≤ i → v ≤ 2 ^ 32 → held_number (number_from v (drop i token)) ≡ Some v
   unfolding number_from
-  digits-end le small = rw (drop_of_length-le {A = ℕ} token le) (ap At (omega arith))
-
--- A 0 before other digits.
-pub zero-short : (token : List ℕ) → length token < 2 → false ≡ has_zero token
-zero-short token lt = go (eqb (byte_at token 0) 48)
-  where
-    go : (b : Bool) → false ≡ (b && leb 2 (length token))
-    go true = sym (lt-leb 2 (length token) lt)
-    go false = refl
-
-pub zero-long : (token : List ℕ) → 2 ≤ length token → eqb (byte_at token 0) 48 ≡ has_zero token
-zero-long token le = go (eqb (byte_at token 0) 48)
-  where
-    go : (b : Bool) → b ≡ (b && leb 2 (length token))
-    go true = sym (le-leb 2 (length token) le)
-    go false = refl
+  digits-end le small = rw (drop_of_length-le {A = ℕ} token le) (ap Some (omega arith))
 
 -- A number: no digits, a 0 before other digits, or its digits.
-pub number-none : (token : List ℕ) → length token ≡ 0 → held_number (number_of token) ≡ Nowhere
+pub number-none : (token : List ℕ) → length token ≡ 0 → held_number (number_of token) ≡ None
 unfolding number_of
 number-none [] e = refl
 number-none (d ∷ ds) e = absurd (omega arith)
 
-pub number-zero : (token : List ℕ) → has_zero token ≡ true → held_number (number_of token) ≡ Nowhere
+pub number-zero : (token : List ℕ) → has_zero token ≡ true → held_number (number_of token) ≡ None
 unfolding number_of
 number-zero [] e = refl
 number-zero (d ∷ ds) e = rw (sym (ap (λ (b : Bool). eqb d 48 && b) (leb-suc-suc 1 (length ds))) ∙ e) refl

@@ -1,5 +1,5 @@
 -- Where tokens start and end, and what their digits say, as the functions answer it.
-use Rattle.std.specs.Prelude.{ℕ, ◌-◌, ◌^◌, ◌≤◌, ◌<◌, min, Bool, true, false, ◌&&◌, leb, eqb, List, ◌∷◌, ◌≡◌, length, take, drop}
+use Rattle.std.specs.Prelude.{Option, Some, None, ℕ, ◌-◌, ◌^◌, ◌≤◌, ◌<◌, min, Bool, true, false, ◌&&◌, leb, eqb, List, ◌∷◌, ◌≡◌, length, take, drop}
 use Rattle.model.specs.Rules.TextForm.{
   Class,
   newline,
@@ -15,8 +15,6 @@ use Rattle.model.specs.Rules.TextForm.{
   tokens_from,
 }
 use Rattle.model.specs.Rules.Word.{byte_at}
-use Rattle.model.specs.declared.Found.{Found}
-use Rattle.model.specs.declared.Found.TheVariants.{At, Nowhere}
 
 abbrev pub is_other : Class → Bool
 is_other newline = false
@@ -61,9 +59,9 @@ pub record EndsAt (text : List ℕ) (start end : ℕ) : Type 0 where
   pub tokens : tokens_at text start between ≡ token start (take (end - start) (drop start text)) ∷ tokens_at text end between
 
 -- A number held at 2^32.
-abbrev pub held_number : Found → Found
-held_number (At n) = At (min n (2 ^ 32))
-held_number Nowhere = Nowhere
+abbrev pub held_number : Option ℕ → Option ℕ
+held_number (Some n) = Some (min n (2 ^ 32))
+held_number None = None
 
 -- A 0 before other digits.
 abbrev pub has_zero : List ℕ → Bool

@@ -1,14 +1,13 @@
 // The tokens of a text: where they start and end, and the numbers that they say.
 #![tactic(auto)]
 
-ghost use Rattle.std.specs.Prelude.{◌≡◌, ◌^◌, ◌≤◌, ◌<◌, min, length};
+ghost use Rattle.std.specs.Prelude.{◌≡◌, ◌≤◌, ◌<◌, length};
 ghost use Rattle.model.specs.Rules.TextForm.{other, class_of, number_from, number_of};
 ghost use Rattle.model.specs.Rules.Word.{byte_at};
 ghost use Rattle.text_token.specs.Scanning.{is_other, starts_token, comment_after, StartsAt, EndsAt, held_number, has_zero};
 
-use model::Found;
-
 // Whether a byte is of a token: no space, tab, CR, LF or semicolon.
+#[tactic(auto, unfolding(model::specs::Rules::TextForm::class_of))]
 fn is_other(b: u8) -> bool
     ensures { result ≡ is_other (class_of b) }
 {
@@ -47,17 +46,15 @@ pub fn token_start(text: &[u8], at: usize) -> usize
     requires { at ≤ length text.now }
     ensures { StartsAt text.now at result }
 {
-    let mut i = at;
     let mut comment = false;
-    while i < text.len() {
+    for i in at..text.len() {
         let b = text[i];
         if starts_token(comment, b) {
             return i;
         }
         comment = comment_after(comment, b);
-        i = i + 1;
     }
-    i
+    text.len()
 }
 
 // Where the token that starts at `start` ends.
@@ -65,42 +62,33 @@ pub fn token_end(text: &[u8], start: usize) -> usize
     requires { (start < length text.now) × (class_of (byte_at text.now start) ≡ other) }
     ensures { EndsAt text.now start result }
 {
-    let mut i = start + 1;
-    while i < text.len() {
-        if is_other(text[i]) {
-            i = i + 1;
-        } else {
+    for i in start + 1..text.len() {
+        if !is_other(text[i]) {
             return i;
         }
     }
-    i
+    text.len()
 }
 
-// A number, held at 2^32, which is in no operand's range.
-fn hold(n: usize) -> usize
-    ensures { result ≡ min n (2 ^ 32) }
-{
-    if n < 4294967296 { n } else { 4294967296 }
-}
+// What a number is held at: it is in no operand's range.
+const HELD: usize = 4294967296;
 
 // The number that digits say, held at 2^32.
-fn digits_value(token: &[u8]) -> Found
+fn digits_value(token: &[u8]) -> Option<usize>
     ensures { result ≡ held_number (number_from 0 token.now) }
 {
     let mut v: usize = 0;
-    let mut i: usize = 0;
-    while i < token.len() {
-        let d = basics::from_byte(token[i]);
+    for byte in token {
+        let d = basics::from_byte(*byte);
         if d < 48 {
-            return Found::Nowhere;
+            return None;
         }
         if 57 < d {
-            return Found::Nowhere;
+            return None;
         }
-        v = hold(10 * v + (d - 48));
-        i = i + 1;
+        v = (10 * v + (d - 48)).min(HELD);
     }
-    Found::At(v)
+    Some(v)
 }
 
 // Whether a 0 stands before other digits.
@@ -114,14 +102,14 @@ fn has_zero(token: &[u8]) -> bool
 }
 
 // The number that a token says, held at 2^32.
-pub fn number_of(token: &[u8]) -> Found
+pub fn number_of(token: &[u8]) -> Option<usize>
     ensures { result ≡ held_number (number_of token.now) }
 {
     if token.len() == 0 {
-        return Found::Nowhere;
+        return None;
     }
     if has_zero(token) {
-        return Found::Nowhere;
+        return None;
     }
     digits_value(token)
 }

@@ -1,5 +1,6 @@
 -- A program and its conversion keep the same conditions with every schedule, have the same streams and the same image.
 -- Assumes nothing.
+use Rattle.std.specs.Prelude.{Option, Some, None}
 use Prim.Native.Nat.{ℕ, zero, suc, ◌+◌, ◌≤◌, ◌<◌}
 use mathlib.Core.Bool.{Bool, true, false, cond, and-eq-true_iff}
 use mathlib.Core.List.{List, [], ◌∷◌, ◌++◌, map, map-map, map-append}
@@ -123,8 +124,6 @@ use Rattle.theorems_conversion.specs.Convert.{
 }
 use Rattle.theorems_pairs.specs.Latency.{Timely}
 use Rattle.theorems_streams.specs.Streams.{value, next, entry, Satisfies}
-use Rattle.model.specs.declared.Found.{Found}
-use Rattle.model.specs.declared.Found.TheVariants.{At, Nowhere}
 use Rattle.model.specs.declared.Index.{Index}
 use Rattle.model.specs.declared.Index.TheVariants.{Fixed, Open}
 use Rattle.model.specs.declared.Kind.{Kind}
@@ -143,7 +142,7 @@ settle-single : (test : ℕ → Bool) → found_or 0 (first_below 1 test) ≡ 0
 unfolding first_below first_from
 settle-single test = go (test 0)
   where
-    go : (b : Bool) → found_or 0 (elim b [ true ↦ At 0 | false ↦ Nowhere ]) ≡ 0
+    go : (b : Bool) → found_or 0 (elim b [ true ↦ Some 0 | false ↦ None ]) ≡ 0
     go true = refl
     go false = refl
 
@@ -656,9 +655,9 @@ module _ (p : Program) (s : Schedule) where
   unfolding run_latency
   latency-bare ρs r k = rw (back-bare ρs r k, source-bare ρs r) (go (back p s r k ρs))
     where
-      go : (f : Found) → latency_from (bare p) s r k (source p s r ρs) f ≡ latency_from p s r k (source p s r ρs) f
-      go (At m) = ap At (latency-of-bare r k (source p s r ρs) m)
-      go Nowhere = refl
+      go : (f : Option ℕ) → latency_from (bare p) s r k (source p s r ρs) f ≡ latency_from p s r k (source p s r ρs) f
+      go (Some m) = ap Some (latency-of-bare r k (source p s r ρs) m)
+      go None = refl
 
   timely-bare : (mode : Mode) (r : ℕ) (ρs : List Read) (bound : ℕ) →
       Timely p s mode r ρs bound ↔ Timely (bare p) s mode r (map bare_read ρs) bound

@@ -1,4 +1,5 @@
 -- Bytes are listed, or refused with each number at its place, exactly under the stated conditions. Assumes nothing.
+use Rattle.std.specs.Prelude.{Option, Some, None}
 use Prim.Native.Nat.{ℕ, zero, suc, ◌+◌, ◌-◌, ◌*◌, ◌/◌, ◌%◌, ◌^◌, ◌≤◌, ◌<◌}
 use mathlib.Core.Bool.{Bool, true, false, cond}
 use mathlib.Core.List.{List, [], ◌∷◌, ◌++◌, append_assoc, append-nil}
@@ -33,8 +34,6 @@ use Rattle.model.specs.Rules.TextForm.{
 }
 use Rattle.model.specs.Rules.Word.{word_of, byte_at, AreBytes}
 use Rattle.model.specs.declared.Fault.{Fault}
-use Rattle.model.specs.declared.Found.{Found}
-use Rattle.model.specs.declared.Found.TheVariants.{At, Nowhere}
 use Rattle.model.specs.declared.Operand.{Operand}
 use Rattle.model.proofs.Images.Stretches.{word-bits}
 use Rattle.model.proofs.Basics.Outcomes.{
@@ -240,13 +239,13 @@ module _ (bytes : List ℕ) where
   unfolding listed_at
   step-stops at [] x f lt e = go (coded (byte_at bytes at) keywords) refl e
     where
-      go : (c : Found) → coded (byte_at bytes at) keywords ≡ c → listed_keyword at c ≡ accepted x →
+      go : (c : Option ℕ) → coded (byte_at bytes at) keywords ≡ c → listed_keyword at c ≡ accepted x →
           (0 < x.width) × (StopsBytes bytes (at + x.width) x.pending f → StopsBytes bytes at [] f)
-      go (At i) p q =
+      go (Some i) p q =
           let h = coded-found (byte_at bytes at) keywords i p in
           subst (λ (y : Listed). (0 < y.width) × (StopsBytes bytes (at + y.width) y.pending f → StopsBytes bytes at [] f))
           (accepted-same _ _ q) (omega arith, λ r. StopsBytes.keyword i lt h.0 (sym h.1) r)
-      go Nowhere p q = absurd (accepted≢refused _ x _ q refl)
+      go None p q = absurd (accepted≢refused _ x _ q refl)
   step-stops at (o ∷ os) x f lt e = go (leb (at + size o) (length bytes)) refl e
     where
       y : Listed
@@ -266,9 +265,9 @@ module _ (bytes : List ℕ) where
   unfolding listed_at
   at_stops at [] f lt e = go (coded (byte_at bytes at) keywords) refl e
     where
-      go : (c : Found) → coded (byte_at bytes at) keywords ≡ c → listed_keyword at c ≡ refused f → StopsBytes bytes at [] f
-      go (At i) p q = absurd (accepted≢refused _ _ f refl q)
-      go Nowhere p q =
+      go : (c : Option ℕ) → coded (byte_at bytes at) keywords ≡ c → listed_keyword at c ≡ refused f → StopsBytes bytes at [] f
+      go (Some i) p q = absurd (accepted≢refused _ _ f refl q)
+      go None p q =
           subst (StopsBytes bytes at []) (refused-same _ _ q)
           (StopsBytes.unknown lt ((coded_none keywords keyword-bytes-differ (byte_at bytes at)).0 p))
   at_stops at (o ∷ os) f lt e = go (leb (at + size o) (length bytes)) refl (map-refused _ _ f e)

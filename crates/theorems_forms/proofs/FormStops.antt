@@ -1,4 +1,5 @@
 -- The text form's refusals, each with its place, and the calls whole. Assumes nothing.
+use Rattle.std.specs.Prelude.{Option, Some, None}
 use Prim.Native.Nat.{ℕ, ◌+◌, ◌-◌, ◌^◌, ◌≤◌, ◌<◌}
 use mathlib.Core.Bool.{Bool, true, false, cond, ◌&&◌}
 use mathlib.Core.List.{List, [], ◌∷◌, ◌++◌}
@@ -38,8 +39,6 @@ use Rattle.model.specs.Rules.TextForm.{
   assemble_of,
 }
 use Rattle.model.specs.declared.Fault.{Fault}
-use Rattle.model.specs.declared.Found.{Found}
-use Rattle.model.specs.declared.Found.TheVariants.{At, Nowhere}
 use Rattle.model.specs.declared.Operand.{Operand}
 use Rattle.model.proofs.Basics.Outcomes.{
   accepted≢refused,
@@ -96,44 +95,44 @@ pub refused-same : {A : Type 0} (f g : Fault) → ◌≡◌ {A = Outcome A} (ref
 refused-same f g e = cc
 
 -- A token is none of a table exactly if it is not found there; a text is no number exactly if none is read.
-spelled_none : (ks : List Keyword) → spellings_differ ks ≡ true → (w : List ℕ) → (spelled w ks ≡ Nowhere) ↔ NoneOf ks w
+spelled_none : (ks : List Keyword) → spellings_differ ks ≡ true → (w : List ℕ) → (spelled w ks ≡ None) ↔ NoneOf ks w
 spelled_none ks d w = (
   λ e i lt q. found-apart (spelled w ks) i (ap (λ (l : List ℕ). spelled l ks) q ∙ spelled_at ks d i lt) e,
   λ none. go none (spelled w ks) refl,
 )
   where
-    go : NoneOf ks w → (f : Found) → spelled w ks ≡ f → f ≡ Nowhere
-    go none Nowhere p = refl
-    go none (At i) p = let h = spelled-found w ks i p in absurd (none i h.0 (sym h.1))
+    go : NoneOf ks w → (f : Option ℕ) → spelled w ks ≡ f → f ≡ None
+    go none None p = refl
+    go none (Some i) p = let h = spelled-found w ks i p in absurd (none i h.0 (sym h.1))
 
-number-none : (w : List ℕ) → ((n : ℕ) → ¬ SaysNumber n w) → number_of w ≡ Nowhere
+number-none : (w : List ℕ) → ((n : ℕ) → ¬ SaysNumber n w) → number_of w ≡ None
 number-none w none = go (number_of w) refl
   where
-    go : (f : Found) → number_of w ≡ f → f ≡ Nowhere
-    go Nowhere p = refl
-    go (At n) p = absurd (none n (number-says w n p))
+    go : (f : Option ℕ) → number_of w ≡ f → f ≡ None
+    go None p = refl
+    go (Some n) p = absurd (none n (number-says w n p))
 
 -- No number, or one outside a range.
-data Outside (place low limit : ℕ) : Found → Fault → Type 0 where
-  missing : Outside place low limit Nowhere (fault 42 place)
-  out : (n : ℕ) → (n < low) ⊎ (limit ≤ n) → Outside place low limit (At n) (fault 43 place)
+data Outside (place low limit : ℕ) : Option ℕ → Fault → Type 0 where
+  missing : Outside place low limit None (fault 42 place)
+  out : (n : ℕ) → (n < low) ⊎ (limit ≤ n) → Outside place low limit (Some n) (fault 43 place)
 
 module _ (place low limit : ℕ) where
-  ranged-outside : (x : Found) (f : Fault) → ranged place low limit x ≡ refused f → Outside place low limit x f
+  ranged-outside : (x : Option ℕ) (f : Fault) → ranged place low limit x ≡ refused f → Outside place low limit x f
   unfolding ranged provided ◌▷◌
-  ranged-outside Nowhere f e = subst (Outside place low limit Nowhere) (refused-same _ _ e) Outside.missing
-  ranged-outside (At n) f e = go (leb low n) (ltb n limit) refl refl e
+  ranged-outside None f e = subst (Outside place low limit None) (refused-same _ _ e) Outside.missing
+  ranged-outside (Some n) f e = go (leb low n) (ltb n limit) refl refl e
     where
-      out : (n < low) ⊎ (limit ≤ n) → ◌≡◌ {A = Outcome ℕ} (refuse 43 place) (refused f) → Outside place low limit (At n) f
-      out h q = subst (Outside place low limit (At n)) (refused-same _ _ q) (Outside.out n h)
+      out : (n < low) ⊎ (limit ≤ n) → ◌≡◌ {A = Outcome ℕ} (refuse 43 place) (refused f) → Outside place low limit (Some n) f
+      out h q = subst (Outside place low limit (Some n)) (refused-same _ _ q) (Outside.out n h)
 
       go : (a b : Bool) → leb low n ≡ a → ltb n limit ≡ b → (provided (a && b) 43 place ▷ λ _. accepted n) ≡ refused f →
-          Outside place low limit (At n) f
+          Outside place low limit (Some n) f
       go true true p r q = absurd (accepted≢refused _ n f refl q)
       go true false p r q = out (inr (ltb-false n limit r)) q
       go false b p r q = out (inl (leb-false low n p)) q
 
-  outside-ranged : {x : Found} {f : Fault} → Outside place low limit x f → ranged place low limit x ≡ refused f
+  outside-ranged : {x : Option ℕ} {f : Fault} → Outside place low limit x f → ranged place low limit x ≡ refused f
   unfolding ranged
   outside-ranged Outside.missing = refl
   outside-ranged (Outside.out n (inl lt)) =
@@ -153,27 +152,27 @@ minus-first (d ∷ ds) e = ap (λ (x : ℕ). x ∷ ds) (sym e)
 
 -- An operand is refused exactly if its token says no value of it.
 module _ (o : Operand) (place : ℕ) where
-  number-refused : (w : List ℕ) → is_signed o ≡ false → NoneOf (names o) w → (x : Found) → number_of w ≡ x → (f : Fault) →
+  number-refused : (w : List ℕ) → is_signed o ≡ false → NoneOf (names o) w → (x : Option ℕ) → number_of w ≡ x → (f : Fault) →
       Outside place 0 (256 ^ size o) x f → FaultAt place (OperandRefused o w) f
   number-refused w s none x p f Outside.missing = (42, OperandRefused.no_number none (no p), refl)
     where
-      no : {w : List ℕ} → number_of w ≡ Nowhere → IsNumber o w → ⊥
+      no : {w : List ℕ} → number_of w ≡ None → IsNumber o w → ⊥
       no {w} p (IsNumber.plus {n} h) = found-apart _ n (says-number w n h) p
       no p (IsNumber.minus t h) = never (sym s ∙ t)
   number-refused w s none x p f (Outside.out n (inl lt)) = absurd (omega arith)
   number-refused w s none x p f (Outside.out n (inr le)) = (43, OperandRefused.large s (number-says w n p) le, refl)
 
-  plus-refused : (w : List ℕ) → is_signed o ≡ true → NoneOf (names o) w → ¬ (get_or w 0 0 ≡ 45) → (x : Found) → number_of w ≡ x →
+  plus-refused : (w : List ℕ) → is_signed o ≡ true → NoneOf (names o) w → ¬ (get_or w 0 0 ≡ 45) → (x : Option ℕ) → number_of w ≡ x →
       (f : Fault) → Outside place 0 (2 ^ 31) x f → FaultAt place (OperandRefused o w) f
   plus-refused w s none apart x p f Outside.missing = (42, OperandRefused.no_number none (no apart p), refl)
     where
-      no : {w : List ℕ} → ¬ (get_or w 0 0 ≡ 45) → number_of w ≡ Nowhere → IsNumber o w → ⊥
+      no : {w : List ℕ} → ¬ (get_or w 0 0 ≡ 45) → number_of w ≡ None → IsNumber o w → ⊥
       no {w} apart p (IsNumber.plus {n} h) = found-apart _ n (says-number w n h) p
       no apart p (IsNumber.minus t h) = apart refl
   plus-refused w s none apart x p f (Outside.out n (inl lt)) = absurd (omega arith)
   plus-refused w s none apart x p f (Outside.out n (inr le)) = (43, OperandRefused.high s (number-says w n p) le, refl)
 
-  minus-refused : (ds : List ℕ) → is_signed o ≡ true → NoneOf (names o) (45 ∷ ds) → (x : Found) → number_of ds ≡ x →
+  minus-refused : (ds : List ℕ) → is_signed o ≡ true → NoneOf (names o) (45 ∷ ds) → (x : Option ℕ) → number_of ds ≡ x →
       (f : Fault) → Outside place 1 (2 ^ 31 + 1) x f → FaultAt place (OperandRefused o (45 ∷ ds)) f
   minus-refused ds s none x p f Outside.missing = (42, OperandRefused.no_number none (no refl), refl)
     where
@@ -211,17 +210,17 @@ module _ (o : Operand) (place : ℕ) where
       value none true s q = word none s (eqb (get_or w 0 0) 45) refl q
       value none false s q = number-refused w s none _ refl f (ranged-outside place 0 (256 ^ size o) _ f q)
 
-      go : (x : Found) → spelled w (names o) ≡ x → value_or (names o) (number (is_signed o)) x ≡ refused f →
+      go : (x : Option ℕ) → spelled w (names o) ≡ x → value_or (names o) (number (is_signed o)) x ≡ refused f →
           FaultAt place (OperandRefused o w) f
-      go (At i) p q = absurd (accepted≢refused _ _ f refl q)
-      go Nowhere p q = value ((spelled_none (names o) (names-differ o) w).0 p) (is_signed o) refl q
+      go (Some i) p q = absurd (accepted≢refused _ _ f refl q)
+      go None p q = value ((spelled_none (names o) (names-differ o) w).0 p) (is_signed o) refl q
 
   no_operand : (w : List ℕ) → NoneOf (names o) w → ¬ IsNumber o w → operand_of o (token place w) ≡ refuse 42 place
   unfolding operand_of ranged ◌▷◌
   no_operand w none other =
       rw ((spelled_none (names o) (names-differ o) w).1 none) (value (is_signed o) refl)
     where
-      absent : number_of w ≡ Nowhere
+      absent : number_of w ≡ None
       absent = number-none w (λ n h. other (IsNumber.plus h))
 
       word : is_signed o ≡ true → (b : Bool) → eqb (get_or w 0 0) 45 ≡ b →
@@ -270,12 +269,12 @@ token-says : (pending : List Operand) (place : ℕ) (w : List ℕ) (x : Assemble
 unfolding assembled_of
 token-says [] place w x e = go (spelled w keywords) refl e
   where
-    go : (f : Found) → spelled w keywords ≡ f → assembled_keyword place f ≡ accepted x → TokenSays [] w x.pending
-    go (At i) p q =
+    go : (f : Option ℕ) → spelled w keywords ≡ f → assembled_keyword place f ≡ accepted x → TokenSays [] w x.pending
+    go (Some i) p q =
         let h = spelled-found w keywords i p in
         subst (λ (y : Assembled). TokenSays [] w y.pending) (accepted-same _ _ q)
         (subst (λ (l : List ℕ). TokenSays [] l (keyword_at keywords i).operands) h.1 (TokenSays.keyword i h.0))
-    go Nowhere p q = absurd (accepted≢refused _ x _ q refl)
+    go None p q = absurd (accepted≢refused _ x _ q refl)
 token-says (o ∷ os) place w x e =
     let v = then-accepted _ _ x e in
     subst (λ (y : Assembled). TokenSays (o ∷ os) w y.pending) (accepted-same _ _ v.2)
@@ -286,9 +285,9 @@ token-refused : (pending : List Operand) (place : ℕ) (w : List ℕ) (f : Fault
 unfolding assembled_of
 token-refused [] place w f e = go (spelled w keywords) refl e
   where
-    go : (x : Found) → spelled w keywords ≡ x → assembled_keyword place x ≡ refused f → FaultAt place (TokenRefused [] w) f
-    go (At i) p q = absurd (accepted≢refused _ _ f refl q)
-    go Nowhere p q = (40, TokenRefused.unknown ((spelled_none keywords keywords-differ w).0 p), refused-same _ _ q)
+    go : (x : Option ℕ) → spelled w keywords ≡ x → assembled_keyword place x ≡ refused f → FaultAt place (TokenRefused [] w) f
+    go (Some i) p q = absurd (accepted≢refused _ _ f refl q)
+    go None p q = (40, TokenRefused.unknown ((spelled_none keywords keywords-differ w).0 p), refused-same _ _ q)
 token-refused (o ∷ os) place w f e =
     let r = operand-refused o place w f (map-refused _ _ f e) in (r.0, TokenRefused.operand r.1, r.2)
 

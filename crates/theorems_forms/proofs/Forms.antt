@@ -1,4 +1,5 @@
 -- The text form: what is listed is assembled to the same bytes, and what is assembled is listed. Assumes nothing.
+use Rattle.std.specs.Prelude.{Option, Some, None}
 use Prim.Native.Nat.{ℕ, zero, suc, ◌+◌, ◌-◌, ◌*◌, ◌^◌, ◌%◌, ◌/◌, ◌≤◌, ◌<◌}
 use mathlib.Core.Bool.{Bool, true, false, cond, ◌&&◌}
 use mathlib.Core.List.{List, [], ◌∷◌, ◌++◌, map, append_assoc, append-nil}
@@ -75,8 +76,6 @@ use Rattle.model.specs.Rules.Word.{bits_of, word_of, byte_at, AreBytes}
 use Rattle.theorems_trials.proofs.Decimals.{natural-says, decimal-says}
 use Rattle.model.specs.declared.Operand.{Operand}
 use Rattle.model.specs.declared.Operand.TheVariants.{One, Two, Four, Signed, Index, Mode}
-use Rattle.model.specs.declared.Found.{Found}
-use Rattle.model.specs.declared.Found.TheVariants.{At, Nowhere}
 use Rattle.model.proofs.Basics.Outcomes.{
   accepted≢refused,
   accepted-same,
@@ -113,27 +112,27 @@ same-is (x ∷ xs) (y ∷ ys) e =
     cc
 
 -- What a search of a table finds.
-pub spelled-found : (w : List ℕ) (ks : List Keyword) (i : ℕ) → spelled w ks ≡ At i →
+pub spelled-found : (w : List ℕ) (ks : List Keyword) (i : ℕ) → spelled w ks ≡ Some i →
     (i < length ks) × ((keyword_at ks i).spelling ≡ w)
 unfolding spelled
 spelled-found w ks i e =
-    let h = is-first (length ks) (λ i. same_bytes (keyword_at ks i).spelling w) (At i) e in
+    let h = is-first (length ks) (λ i. same_bytes (keyword_at ks i).spelling w) (Some i) e in
     (omega arith, same-is _ _ h.2)
 
-pub coded-found : (b : ℕ) (ks : List Keyword) (i : ℕ) → coded b ks ≡ At i → (i < length ks) × ((keyword_at ks i).byte ≡ b)
+pub coded-found : (b : ℕ) (ks : List Keyword) (i : ℕ) → coded b ks ≡ Some i → (i < length ks) × ((keyword_at ks i).byte ≡ b)
 unfolding coded
 coded-found b ks i e =
-    let h = is-first (length ks) (λ i. eqb (keyword_at ks i).byte b) (At i) e in
+    let h = is-first (length ks) (λ i. eqb (keyword_at ks i).byte b) (Some i) e in
     (omega arith, eqb-true _ _ h.2)
 
 -- Each keyword is found by its spelling and by its byte.
-abbrev pub is_at : ℕ → Found → Bool
-is_at i (At j) = eqb j i
-is_at i Nowhere = false
+abbrev pub is_at : ℕ → Option ℕ → Bool
+is_at i (Some j) = eqb j i
+is_at i None = false
 
-is-at : (i : ℕ) (f : Found) → is_at i f ≡ true → f ≡ At i
-is-at i (At j) e = ap At (eqb-true j i e)
-is-at i Nowhere e = never e
+is-at : (i : ℕ) (f : Option ℕ) → is_at i f ≡ true → f ≡ Some i
+is-at i (Some j) e = ap Some (eqb-true j i e)
+is-at i None e = never e
 
 abbrev pub spellings_differ : List Keyword → Bool
 spellings_differ ks = all_below (length ks) (λ i. is_at i (spelled (keyword_at ks i).spelling ks))
@@ -159,11 +158,11 @@ names-differ Index = refl
 names-differ Mode = refl
 
 pub spelled_at : (ks : List Keyword) → spellings_differ ks ≡ true → (i : ℕ) → i < length ks →
-    spelled (keyword_at ks i).spelling ks ≡ At i
+    spelled (keyword_at ks i).spelling ks ≡ Some i
 spelled_at ks e i lt =
     is-at i _ (all_true (length ks) (λ i. is_at i (spelled (keyword_at ks i).spelling ks)) e i lt)
 
-pub coded-at : (ks : List Keyword) → bytes_differ ks ≡ true → (i : ℕ) → i < length ks → coded (keyword_at ks i).byte ks ≡ At i
+pub coded-at : (ks : List Keyword) → bytes_differ ks ≡ true → (i : ℕ) → i < length ks → coded (keyword_at ks i).byte ks ≡ Some i
 coded-at ks e i lt = is-at i _ (all_true (length ks) (λ i. is_at i (coded (keyword_at ks i).byte ks)) e i lt)
 
 pub names-bytes-differ : (o : Operand) → bytes_differ (names o) ≡ true
@@ -175,19 +174,19 @@ names-bytes-differ Signed = refl
 names-bytes-differ Index = refl
 names-bytes-differ Mode = refl
 
-pub found-apart : (x : Found) (i : ℕ) → x ≡ At i → x ≡ Nowhere → ⊥
+pub found-apart : (x : Option ℕ) (i : ℕ) → x ≡ Some i → x ≡ None → ⊥
 found-apart x i p q = let z : ◌≡◌ {A = ℕ} 0 1 = cc in omega arith
 
 pub coded_none : (ks : List Keyword) → bytes_differ ks ≡ true → (b : ℕ) →
-    (coded b ks ≡ Nowhere) ↔ ((i : ℕ) → i < length ks → ¬ (b ≡ (keyword_at ks i).byte))
+    (coded b ks ≡ None) ↔ ((i : ℕ) → i < length ks → ¬ (b ≡ (keyword_at ks i).byte))
 coded_none ks d b = (
   λ e i lt q. found-apart (coded b ks) i (ap (λ (n : ℕ). coded n ks) q ∙ coded-at ks d i lt) e,
   λ none. go none (coded b ks) refl,
 )
   where
-    go : ((i : ℕ) → i < length ks → ¬ (b ≡ (keyword_at ks i).byte)) → (f : Found) → coded b ks ≡ f → f ≡ Nowhere
-    go none Nowhere p = refl
-    go none (At i) p = let h = coded-found b ks i p in absurd (none i h.0 (sym h.1))
+    go : ((i : ℕ) → i < length ks → ¬ (b ≡ (keyword_at ks i).byte)) → (f : Option ℕ) → coded b ks ≡ f → f ≡ None
+    go none None p = refl
+    go none (Some i) p = let h = coded-found b ks i p in absurd (none i h.0 (sym h.1))
 
 -- No name starts as a number does.
 abbrev starts_by : List Keyword → ℕ → Bool
@@ -202,12 +201,12 @@ names-start Signed = refl
 names-start Index = refl
 names-start Mode = refl
 
-pub unnamed : (o : Operand) (w : List ℕ) → get_or w 0 0 ≤ 57 → spelled w (names o) ≡ Nowhere
+pub unnamed : (o : Operand) (w : List ℕ) → get_or w 0 0 ≤ 57 → spelled w (names o) ≡ None
 unnamed o w low = go (spelled w (names o)) refl
   where
-    go : (f : Found) → spelled w (names o) ≡ f → f ≡ Nowhere
-    go Nowhere e = refl
-    go (At i) e =
+    go : (f : Option ℕ) → spelled w (names o) ≡ f → f ≡ None
+    go None e = refl
+    go (Some i) e =
         let h = spelled-found w (names o) i e in
         let s = all_true (length (names o)) (starts_by (names o)) (names-start o) i h.0 in
         absurd (omega (arith, ltb-true 57 (get_or (keyword_at (names o) i).spelling 0 0) s, ap (λ (l : List ℕ). get_or l 0 0) h.1))
@@ -222,29 +221,29 @@ digit-true d e = let h = both (leb 48 d) (leb d 57) e in (leb-true 48 d h.0, leb
 true-digit : (d : ℕ) → IsDigit d → within 48 57 d ≡ true
 true-digit d h = rw (le-leb 48 d h.0, le-leb d 57 h.1) refl
 
-from-says : (v : ℕ) (ds : List ℕ) (n : ℕ) → number_from v ds ≡ At n → All IsDigit ds × (value_of v ds ≡ n)
+from-says : (v : ℕ) (ds : List ℕ) (n : ℕ) → number_from v ds ≡ Some n → All IsDigit ds × (value_of v ds ≡ n)
 unfolding number_from value_of
 from-says v [] n e = let z : v ≡ n = cc in (tt, z)
 from-says v (d ∷ ds) n e = go (within 48 57 d) refl e (λ q. from-says (10 * v + (d - 48)) ds n q)
   where
     go : (b : Bool) → within 48 57 d ≡ b →
-        elim b [ true ↦ number_from (10 * v + (d - 48)) ds | false ↦ Nowhere ] ≡ At n →
-        (number_from (10 * v + (d - 48)) ds ≡ At n → All IsDigit ds × (value_of (10 * v + (d - 48)) ds ≡ n)) →
+        elim b [ true ↦ number_from (10 * v + (d - 48)) ds | false ↦ None ] ≡ Some n →
+        (number_from (10 * v + (d - 48)) ds ≡ Some n → All IsDigit ds × (value_of (10 * v + (d - 48)) ds ≡ n)) →
         All IsDigit (d ∷ ds) × (value_of (10 * v + (d - 48)) ds ≡ n)
     go true t q ih = let h = ih q in ((digit-true d t, h.0), h.1)
     go false t q ih = let z : ◌≡◌ {A = ℕ} 0 1 = cc in absurd (omega arith)
 
-says-from : (v : ℕ) (ds : List ℕ) → All IsDigit ds → number_from v ds ≡ At (value_of v ds)
+says-from : (v : ℕ) (ds : List ℕ) → All IsDigit ds → number_from v ds ≡ Some (value_of v ds)
 unfolding number_from value_of
 says-from v [] h = refl
 says-from v (d ∷ ds) h = rw (true-digit d h.0, number_from) (says-from (10 * v + (d - 48)) ds h.1)
 
-pub number-says : (ds : List ℕ) (n : ℕ) → number_of ds ≡ At n → SaysNumber n ds
+pub number-says : (ds : List ℕ) (n : ℕ) → number_of ds ≡ Some n → SaysNumber n ds
 unfolding number_of
 number-says [] n e = let z : ◌≡◌ {A = ℕ} 0 1 = cc in absurd (omega arith)
 number-says (d ∷ ds) n e = go (eqb d 48 && leb 1 (length ds)) refl e
   where
-    go : (b : Bool) → (eqb d 48 && leb 1 (length ds)) ≡ b → cond b Nowhere (number_from 0 (d ∷ ds)) ≡ At n → SaysNumber n (d ∷ ds)
+    go : (b : Bool) → (eqb d 48 && leb 1 (length ds)) ≡ b → cond b None (number_from 0 (d ∷ ds)) ≡ Some n → SaysNumber n (d ∷ ds)
     go true t q = let z : ◌≡◌ {A = ℕ} 0 1 = cc in absurd (omega arith)
     go false t q =
         let h = from-says 0 (d ∷ ds) n q in
@@ -253,29 +252,29 @@ number-says (d ∷ ds) n e = go (eqb d 48 && leb 1 (length ds)) refl e
         no : 1 < length (d ∷ ds) → d ≡ 48 → ⊥
         no long first = never (sym t ∙ rw (eq-eqb d 48 first, le-leb 1 (length ds) (omega arith)) refl)
 
-pub says-number : (ds : List ℕ) (n : ℕ) → SaysNumber n ds → number_of ds ≡ At n
+pub says-number : (ds : List ℕ) (n : ℕ) → SaysNumber n ds → number_of ds ≡ Some n
 unfolding number_of
 says-number [] n h = absurd (omega (arith, h.some))
 says-number (d ∷ ds) n h = go (eqb d 48 && leb 1 (length ds)) refl
   where
-    go : (b : Bool) → (eqb d 48 && leb 1 (length ds)) ≡ b → cond b Nowhere (number_from 0 (d ∷ ds)) ≡ At n
+    go : (b : Bool) → (eqb d 48 && leb 1 (length ds)) ≡ b → cond b None (number_from 0 (d ∷ ds)) ≡ Some n
     go true t =
         let g = both (eqb d 48) (leb 1 (length ds)) t in
         absurd (h.shortest (omega (arith, leb-true 1 (length ds) g.1)) (eqb-true d 48 g.0))
-    go false t = says-from 0 (d ∷ ds) h.digits ∙ ap At h.value
+    go false t = says-from 0 (d ∷ ds) h.digits ∙ ap Some h.value
 
 -- A range.
-ranged-is : (place low limit : ℕ) (f : Found) (n : ℕ) → ranged place low limit f ≡ accepted n →
-    (f ≡ At n) × (low ≤ n) × (n < limit)
+ranged-is : (place low limit : ℕ) (f : Option ℕ) (n : ℕ) → ranged place low limit f ≡ accepted n →
+    (f ≡ Some n) × (low ≤ n) × (n < limit)
 unfolding ranged
-ranged-is place low limit (At m) n e =
+ranged-is place low limit (Some m) n e =
     let h = then-accepted _ _ n e in
     let t = both (leb low m) (ltb m limit) (provided-true _ _ _ h.1) in
     let q : m ≡ n = accepted-same m n h.2 in
-    (ap At q, omega (arith, leb-true low m t.0), omega (arith, ltb-true m limit t.1))
-ranged-is place low limit Nowhere n e = absurd (accepted≢refused _ n _ e refl)
+    (ap Some q, omega (arith, leb-true low m t.0), omega (arith, ltb-true m limit t.1))
+ranged-is place low limit None n e = absurd (accepted≢refused _ n _ e refl)
 
-is-ranged : (place low limit n : ℕ) → low ≤ n → n < limit → ranged place low limit (At n) ≡ accepted n
+is-ranged : (place low limit n : ℕ) → low ≤ n → n < limit → ranged place low limit (Some n) ≡ accepted n
 unfolding ranged
 is-ranged place low limit n le lt =
     accepted-then _ _ tt (true-provided _ _ _ (rw (le-leb low n le, lt-ltb n limit lt) refl))
@@ -287,7 +286,7 @@ unfolding bits_of ranged number_of
 signed-says place [] v e = absurd (accepted≢refused _ v _ e refl)
 signed-says place (d ∷ ds) v e = go (eqb d 45) refl e
   where
-    minus : (n : ℕ) → d ≡ 45 → number_of ds ≡ At n → 1 ≤ n → n < 2 ^ 31 + 1 → 2 ^ 32 - n ≡ v →
+    minus : (n : ℕ) → d ≡ 45 → number_of ds ≡ Some n → 1 ≤ n → n < 2 ^ 31 + 1 → 2 ^ 32 - n ≡ v →
         (z : ℤ) × SaysWord z (d ∷ ds) × (mag z < 2 ^ 31) × (v ≡ bits_of z)
     minus zero p q low high r = absurd (omega arith)
     minus (suc n) p q low high r = (
@@ -338,11 +337,11 @@ operand-says o t v e = go (spelled t.spelling (names o)) refl e
         let h = ranged-is t.place 0 (256 ^ size o) (number_of t.spelling) v q in
         OperandSays.number s (number-says t.spelling v h.0) h.2
 
-    go : (f : Found) → spelled t.spelling (names o) ≡ f → value_or (names o) (number (is_signed o)) f ≡ accepted v →
+    go : (f : Option ℕ) → spelled t.spelling (names o) ≡ f → value_or (names o) (number (is_signed o)) f ≡ accepted v →
         OperandSays o t.spelling v
-    go (At i) p q =
+    go (Some i) p q =
         let h = spelled-found t.spelling (names o) i p in OperandSays.named i h.0 (sym h.1) (sym (accepted-same _ _ q))
-    go Nowhere p q = value (is_signed o) refl q
+    go None p q = value (is_signed o) refl q
 
 pub says-operand : (o : Operand) (t : Token) (v : ℕ) → OperandSays o t.spelling v → operand_of o t ≡ accepted v
 unfolding operand_of
@@ -373,16 +372,16 @@ assemble-says end [] (t ∷ ts) bytes e =
     subst (TokensSay [] (spellings (t ∷ ts))) (accepted-same _ _ g.2)
     (go h.0 g.0 (spelled t.spelling keywords) refl h.1 (assemble-says end h.0.pending ts g.0 g.1))
   where
-    go : (x : Assembled) (rest : List ℕ) (f : Found) → spelled t.spelling keywords ≡ f →
+    go : (x : Assembled) (rest : List ℕ) (f : Option ℕ) → spelled t.spelling keywords ≡ f →
         assembled_keyword t.place f ≡ accepted x → TokensSay x.pending (spellings ts) rest →
         TokensSay [] (t.spelling ∷ spellings ts) (x.bytes ++ rest)
-    go x rest (At i) p q ih =
+    go x rest (Some i) p q ih =
         let h = spelled-found t.spelling keywords i p in
         subst (λ (y : Assembled). TokensSay y.pending (spellings ts) rest →
         TokensSay [] (t.spelling ∷ spellings ts) (y.bytes ++ rest)) (accepted-same _ _ q)
         (λ g. subst (λ (w : List ℕ). TokensSay [] (w ∷ spellings ts) ((keyword_at keywords i).byte ∷ rest)) h.1
         (TokensSay.keyword i h.0 g)) ih
-    go x rest Nowhere p q ih = absurd (accepted≢refused _ x _ q refl)
+    go x rest None p q ih = absurd (accepted≢refused _ x _ q refl)
 assemble-says end (o ∷ os) (t ∷ ts) bytes e =
     let h = then-accepted _ _ bytes e in
     let g = then-accepted _ _ bytes h.2 in
@@ -512,9 +511,9 @@ operand-listed : (o : Operand) (v : ℕ) → v < 256 ^ size o → OperandListed 
 unfolding operand_token
 operand-listed o v lt = go (coded v (names o)) refl
   where
-    go : (f : Found) → coded v (names o) ≡ f → OperandListed o v (name_or (names o) (number_token o v) f)
-    go (At i) e = let h = coded-found v (names o) i e in OperandListed.named i h.0 (sym h.1)
-    go Nowhere e = number-listed o v lt ((coded_none (names o) (names-bytes-differ o) v).0 e)
+    go : (f : Option ℕ) → coded v (names o) ≡ f → OperandListed o v (name_or (names o) (number_token o v) f)
+    go (Some i) e = let h = coded-found v (names o) i e in OperandListed.named i h.0 (sym h.1)
+    go None e = number-listed o v lt ((coded_none (names o) (names-bytes-differ o) v).0 e)
 
 listed-operand : {o : Operand} {v : ℕ} {w : List ℕ} → OperandListed o v w → v < 256 ^ size o → OperandSays o w v × Plain w
 listed-operand {o} (OperandListed.named i lt e) small =
@@ -649,9 +648,9 @@ led (suc at) true w rest = rw (ne_eqb (suc at) 0 (λ q. omega arith)) (ap (10 �
 led (suc at) false w rest = rw (ne_eqb (suc at) 0 (λ q. omega arith)) (ap (32 ∷◌) (sym (append_assoc w rest (10 ∷ []))))
 
 module _ (bytes : List ℕ) (are : AreBytes bytes) where
-  keyword-step : (at : ℕ) → at < length bytes → (x : Listed) (f : Found) → coded (byte_at bytes at) keywords ≡ f →
+  keyword-step : (at : ℕ) → at < length bytes → (x : Listed) (f : Option ℕ) → coded (byte_at bytes at) keywords ≡ f →
       listed_keyword at f ≡ accepted x → Step bytes at [] x
-  keyword-step at lt x (At i) p q =
+  keyword-step at lt x (Some i) p q =
       let h = coded-found (byte_at bytes at) keywords i p in
       let k = keyword_at keywords i in
       subst (Step bytes at []) (accepted-same _ _ q)
@@ -662,7 +661,7 @@ module _ (bytes : List ℕ) (are : AreBytes bytes) where
             (ap (λ (b : ℕ). b ∷ drop (at + 1) bytes) h.1 ∙ sym (next-byte bytes at (at + 1) (omega arith) lt))
             (ListedFrom.keyword i h.0 g);
       })
-  keyword-step at lt x Nowhere p q = absurd (accepted≢refused _ x _ q refl)
+  keyword-step at lt x None p q = absurd (accepted≢refused _ x _ q refl)
 
   step-listed : (at : ℕ) (pending : List Operand) (x : Listed) → at < length bytes → listed_at bytes at pending ≡ accepted x →
       Step bytes at pending x

@@ -1,5 +1,6 @@
 -- A join is accepted exactly under its conditions, and refused exactly under those of each number, in the order stated; a refusal
 -- inside a part names the part. Assumes nothing.
+use Rattle.std.specs.Prelude.{Option, Some, None}
 use Prim.Native.Nat.{ℕ, zero, suc, ◌+◌, ◌≤◌, ◌<◌}
 use mathlib.Core.Bool.{Bool, true, false, not, and-eq-true_iff, false≢true, true≢false}
 use mathlib.Core.List.{List, [], ◌∷◌}
@@ -43,8 +44,6 @@ use Rattle.model.specs.Rules.Parts.{Part, tabled_parts, part_at, PartLink}
 use Rattle.model.specs.Rules.Search.{first_below, all_below}
 use Rattle.model.specs.Says.Feasible.{All}
 use Rattle.model.specs.declared.Fault.{Fault}
-use Rattle.model.specs.declared.Found.{Found}
-use Rattle.model.specs.declared.Found.TheVariants.{At, Nowhere}
 use Rattle.model.proofs.Basics.All.{at_all}
 use Rattle.model.proofs.Basics.Outcomes.{not-true-false, accepted≢refused, accepted-then, refused-then, table-length, table_at}
 use Rattle.model.proofs.Joining.Lent.{link-in, link-back}
@@ -86,39 +85,39 @@ use Rattle.theorems_pairs.proofs.Judged.{
 
 -- The first number below n at which a test finds that C does not hold.
 module _ (n : ℕ) (bad : ℕ → Bool) (C : ℕ → Type 0) (decides : (i : ℕ) → i < n → (bad i ≡ false) ↔ C i) where
-  first-bad : (i : ℕ) → first_below n bad ≡ At i → (i < n) × ¬ C i × ((j : ℕ) → j < i → C j)
+  first-bad : (i : ℕ) → first_below n bad ≡ Some i → (i < n) × ¬ C i × ((j : ℕ) → j < i → C j)
   first-bad i e =
-      let h = is-first n bad (At i) e in
+      let h = is-first n bad (Some i) e in
       let lt : i < n = omega arith in (
         lt,
         (λ c. true≢false (sym h.2 ∙ (decides i lt).1 c)),
         (λ j l. (decides j (omega arith)).0 (h.3 j (omega arith) l)),
       )
 
-  none-bad : first_below n bad ≡ Nowhere → (i : ℕ) → i < n → C i
-  none-bad e i lt = (decides i lt).0 (is-first n bad Nowhere e i (omega arith) (omega arith))
+  none-bad : first_below n bad ≡ None → (i : ℕ) → i < n → C i
+  none-bad e i lt = (decides i lt).0 (is-first n bad None e i (omega arith) (omega arith))
 
-  bad-first : (i : ℕ) → i < n → ¬ C i → ((j : ℕ) → j < i → C j) → first_below n bad ≡ At i
+  bad-first : (i : ℕ) → i < n → ¬ C i → ((j : ℕ) → j < i → C j) → first_below n bad ≡ Some i
   bad-first i lt u g = go (first_below n bad) refl
     where
-      go : (f : Found) → first_below n bad ≡ f → f ≡ At i
-      go Nowhere e = absurd (u (none-bad e i lt))
-      go (At j) e = same (dec_lt j i) (dec_lt i j)
+      go : (f : Option ℕ) → first_below n bad ≡ f → f ≡ Some i
+      go None e = absurd (u (none-bad e i lt))
+      go (Some j) e = same (dec_lt j i) (dec_lt i j)
         where
           h : (j < n) × ¬ C j × ((k : ℕ) → k < j → C k)
           h = first-bad j e
 
-          same : Dec (j < i) → Dec (i < j) → At j ≡ At i
+          same : Dec (j < i) → Dec (i < j) → Some j ≡ Some i
           same (yes l) d = absurd (h.1 (g j l))
           same (no l) (yes k) = absurd (u (h.2 i k))
-          same (no l) (no k) = let q : j ≡ i = omega arith in ap At q
+          same (no l) (no k) = let q : j ≡ i = omega arith in ap Some q
 
-  bad-none : ((i : ℕ) → i < n → C i) → first_below n bad ≡ Nowhere
+  bad-none : ((i : ℕ) → i < n → C i) → first_below n bad ≡ None
   bad-none g = go (first_below n bad) refl
     where
-      go : (f : Found) → first_below n bad ≡ f → f ≡ Nowhere
-      go Nowhere e = refl
-      go (At j) e = let h = first-bad j e in absurd (h.1 (g j h.0))
+      go : (f : Option ℕ) → first_below n bad ≡ f → f ≡ None
+      go None e = refl
+      go (Some j) e = let h = first-bad j e in absurd (h.1 (g j h.0))
 
 -- 1, 4, 27.
 bound-judged : (a b n x : ℕ) → Judged (λ u. a ≤ b) (Only n x (¬ (a ≤ b))) (provided (leb a b) n x)
@@ -417,7 +416,7 @@ module _ (parts : List Part) (links : List ℕ) where
   none_right = ((λ g i lt. g i (link-in links i lt)), (λ g i lt. g i (link-back links i lt)))
 
   -- 31.
-  lowest-wrong : (i : ℕ) → first_below (links_in links) (λ i. not (is_right parts links i)) ≡ At i →
+  lowest-wrong : (i : ℕ) → first_below (links_in links) (λ i. not (is_right parts links i)) ≡ Some i →
       LowestFault (WrongLink parts links) (fault 31 i)
   lowest-wrong i e =
       let h = first-bad (links_in links) _ (LinkRight parts links) wrong-decides i e in
@@ -440,10 +439,10 @@ module _ (parts : List Part) (links : List ℕ) where
   unfolding named
   named-answers = go (first_below (links_in links) (λ i. not (is_right parts links i))) refl
     where
-      go : (f : Found) → first_below (links_in links) (λ i. not (is_right parts links i)) ≡ f →
+      go : (f : Option ℕ) → first_below (links_in links) (λ i. not (is_right parts links i)) ≡ f →
           Answers Right Wrong (named_of parts f)
-      go (At i) e = lowest-wrong i e
-      go Nowhere e = none_right.0 (none-bad (links_in links) _ (LinkRight parts links) wrong-decides e)
+      go (Some i) e = lowest-wrong i e
+      go None e = none_right.0 (none-bad (links_in links) _ (LinkRight parts links) wrong-decides e)
 
   named-passed : LinksRight parts links → named parts links ≡ accepted tt
   unfolding named
@@ -459,12 +458,12 @@ module _ (parts : List Part) (links : List ℕ) where
       never : {g : Fault} → WrongLink parts links g → LinksRight parts links → ⊥
       never (WrongLink.wrong j lt u) r = u (r j lt)
 
-      go : (k : Found) → first_below (links_in links) (λ i. not (is_right parts links i)) ≡ k → named_of parts k ≡ refused f
-      go (At i) e =
+      go : (k : Option ℕ) → first_below (links_in links) (λ i. not (is_right parts links i)) ≡ k → named_of parts k ≡ refused f
+      go (Some i) e =
           let l = lowest-wrong i e in
           let p : f.place ≡ i = omega (arith, w.least _ l.fault, l.least _ w.fault) in
           ap refused (same i w.fault p)
-      go Nowhere e =
+      go None e =
           absurd (never w.fault (none_right.0 (none-bad (links_in links) _ (LinkRight parts links) wrong-decides e)))
 
   pub named-judged : Judged Right Wrong (named parts links)
@@ -514,7 +513,7 @@ module _ (buffer numbers links : List ℕ) where
   refused_part k = is_refused (part_pair buffer (texts_at numbers k))
 
   -- The part named.
-  named_none : {f : Fault} → lent buffer numbers ≡ refused f → part_named buffer numbers ≡ Nowhere
+  named_none : {f : Fault} → lent buffer numbers ≡ refused f → part_named buffer numbers ≡ None
   unfolding part_named
   named_none e = ap (λ (o : Outcome (Unit {0})). named_after o (first_below n refused_part)) e
 
@@ -523,27 +522,27 @@ module _ (buffer numbers links : List ℕ) where
   named-first e = ap (λ (o : Outcome (Unit {0})). named_after o (first_below n refused_part)) e
 
   named-part : TextsLent buffer numbers → (k : ℕ) → k < n → ((j : ℕ) → j < k → Accepts buffer numbers j) → (f : Fault) →
-      Refuses buffer numbers k f → part_named buffer numbers ≡ At k
+      Refuses buffer numbers k f → part_named buffer numbers ≡ Some k
   named-part l k lt before f r =
       named-first (((lent-judged buffer numbers).accepts tt).1 l) ∙
       bad-first n refused_part (Accepts buffer numbers) (refused-decides buffer numbers) k lt
       (refused-not buffer numbers k f r) before
 
   named-legal : TextsLent buffer numbers → (parts : List Part) → PartsLegal buffer numbers parts →
-      part_named buffer numbers ≡ Nowhere
+      part_named buffer numbers ≡ None
   named-legal l parts legal =
       named-first (((lent-judged buffer numbers).accepts tt).1 l) ∙
       bad-none n refused_part (Accepts buffer numbers) (refused-decides buffer numbers)
       (λ k lt. (part_at parts k, legal.each k (omega (arith, legal.count-is))))
 
-  at_name : {f : Fault} (k : Found) → part_named buffer numbers ≡ k → JoinRefused buffer numbers links k f → R f
+  at_name : {f : Fault} (k : Option ℕ) → part_named buffer numbers ≡ k → JoinRefused buffer numbers links k f → R f
   unfolding R
-  at_name {f} k e r = subst (λ (j : Found). JoinRefused buffer numbers links j f) (sym e) r
+  at_name {f} k e r = subst (λ (j : Option ℕ). JoinRefused buffer numbers links j f) (sym e) r
 
   lent-refused : {f : Fault} → LentFault buffer numbers f → R f
-  lent-refused {f} w = at_name Nowhere (named_none (((lent-judged buffer numbers).refuses f).1 w)) (stated w)
+  lent-refused {f} w = at_name None (named_none (((lent-judged buffer numbers).refuses f).1 w)) (stated w)
     where
-      stated : {g : Fault} → LentFault buffer numbers g → JoinRefused buffer numbers links Nowhere g
+      stated : {g : Fault} → LentFault buffer numbers g → JoinRefused buffer numbers links None g
       stated (LentFault.long h) = JoinRefused.long h
       stated (LentFault.ninth short h) = JoinRefused.ninth short h
       stated (LentFault.outside short few h) = JoinRefused.outside short few h.0 h.1 h.2
@@ -553,10 +552,10 @@ module _ (buffer numbers links : List ℕ) where
       let r' = subst (λ (k : ℕ). Refuses buffer numbers k f) (zero-add i) r in
       let before' : (j : ℕ) → j < i → Accepts buffer numbers j =
       λ j k. subst (Accepts buffer numbers) (zero-add j) (before j k) in
-      at_name (At i) (named-part l i lt before' f r') (JoinRefused.inside l i lt before' r')
+      at_name (Some i) (named-part l i lt before' f r') (JoinRefused.inside l i lt before' r')
 
   two-tables : {parts : List Part} {f : Fault} → TextsLent buffer numbers → PartsLegal buffer numbers parts →
-      LinksRight parts links → Only 31 0 (¬ OneTable parts) f → JoinRefused buffer numbers links Nowhere f
+      LinksRight parts links → Only 31 0 (¬ OneTable parts) f → JoinRefused buffer numbers links None f
   two-tables l legal right (Only.only u) = JoinRefused.tables l legal right u
 
   answers : Answers Q R (joined_pair_of buffer numbers links)
@@ -568,19 +567,19 @@ module _ (buffer numbers links : List ℕ) where
       let legal = (all-legal buffer numbers parts).0 from in
       let none = named-legal l parts legal in
       answers-then Q R (named parts links) _ (named-judged parts links)
-      (λ g f. at_name Nowhere none (JoinRefused.wrong l legal f)) (λ v right.
+      (λ g f. at_name None none (JoinRefused.wrong l legal f)) (λ v right.
       answers-then Q R (one_table parts) _ (table-judged parts)
-      (λ g f. at_name Nowhere none (two-tables l legal right f)) (λ w one.
+      (λ g f. at_name None none (two-tables l legal right f)) (λ w one.
       last parts l legal none right one (joined_verdict parts (links_of links))
       (joined-judged parts (parts-legal-feasible buffer numbers parts legal) (links_of links) (all_named parts links right))))))
     where
       last : (parts : List Part) → TextsLent buffer numbers → PartsLegal buffer numbers parts →
-          part_named buffer numbers ≡ Nowhere → LinksRight parts links → OneTable parts → (o : Outcome Pair) →
+          part_named buffer numbers ≡ None → LinksRight parts links → OneTable parts → (o : Outcome Pair) →
           Judged (JoinedLegal parts (links_of links)) (JoinedRefused parts (links_of links)) o → Answers Q R o
       last parts l legal none right one (accepted q) j =
           record { lent = l; parts = parts; legal = legal; right = right; table = one; joined = (j.accepts q).0 refl }
       last parts l legal none right one (refused f) j =
-          at_name Nowhere none (JoinRefused.joined l legal right one ((j.refuses f).0 refl))
+          at_name None none (JoinRefused.joined l legal right one ((j.refuses f).0 refl))
 
   verdict-judged : (parts : List Part) → PartsLegal buffer numbers parts → LinksRight parts links →
       Judged (JoinedLegal parts (links_of links)) (JoinedRefused parts (links_of links)) (joined_verdict parts (links_of links))
@@ -607,7 +606,7 @@ module _ (buffer numbers links : List ℕ) where
       accepted-then _ _ _ (((table-judged h.parts).accepts tt).1 h.table) ∙
       ((verdict-judged h.parts h.legal h.right).accepts q).1 h.joined
 
-  refused-back : {k : Found} {f : Fault} → JoinRefused buffer numbers links k f →
+  refused-back : {k : Option ℕ} {f : Fault} → JoinRefused buffer numbers links k f →
       (joined_pair_of buffer numbers links ≡ refused f) × (part_named buffer numbers ≡ k)
   unfolding joined_pair_of
   refused-back (JoinRefused.long h) =
@@ -650,13 +649,13 @@ module _ (buffer numbers links : List ℕ) where
   join-accepted-exactly q = (answers-accepted Q R (joined_pair_of buffer numbers links) q answers, legal-back q)
 
   -- It is refused with f, a number and a place, naming part k or none, exactly under that number's condition.
-  pub join-refused-exactly : (k : Found) (f : Fault) →
+  pub join-refused-exactly : (k : Option ℕ) (f : Fault) →
       ((joined_pair_of buffer numbers links ≡ refused f) × (part_named buffer numbers ≡ k)) ↔
       JoinRefused buffer numbers links k f
   unfolding R
   join-refused-exactly k f = (
     (λ e.
-        subst (λ (j : Found). JoinRefused buffer numbers links j f) e.1
+        subst (λ (j : Option ℕ). JoinRefused buffer numbers links j f) e.1
         (answers-refused Q R (joined_pair_of buffer numbers links) f answers e.0)),
     refused-back,
   )
@@ -673,5 +672,5 @@ module _ (buffer numbers links : List ℕ) where
       }
 
   -- An accepted join names no part.
-  pub legal-unnamed : (q : Pair) → JoinLegal buffer numbers links q → part_named buffer numbers ≡ Nowhere
+  pub legal-unnamed : (q : Pair) → JoinLegal buffer numbers links q → part_named buffer numbers ≡ None
   legal-unnamed q l = named-legal l.lent l.parts l.legal

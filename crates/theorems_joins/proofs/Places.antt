@@ -1,4 +1,5 @@
 -- Every refusal of a join has a number above 0 and a small place, and what it yields is small. Assumes nothing.
+use Rattle.std.specs.Prelude.{Option}
 use Prim.Native.Nat.{ℕ, ◌+◌, ◌*◌, ◌≤◌, ◌<◌}
 use mathlib.Core.Bool.{Bool, true, false, false≢true}
 use mathlib.Core.List.{List}
@@ -13,7 +14,6 @@ use Rattle.model.specs.Rules.Parts.{Part, part_at, PartLink}
 use Rattle.model.specs.Rules.Program.{count}
 use Rattle.model.specs.Rules.Word.{AreBytes}
 use Rattle.model.specs.declared.Fault.{Fault}
-use Rattle.model.specs.declared.Found.{Found}
 use Rattle.model.proofs.Basics.Outcomes.{table-length, table_at}
 use Rattle.model.proofs.Joining.Lent.{link-back}
 use Rattle.model.proofs.Pairs.Pigeons.{pigeons}
@@ -134,7 +134,7 @@ joined_number {parts} {links} (JoinedRefused.unmet few least w) = go w.fault
 joined_number (JoinedRefused.overloaded few least met w) = load-number w.fault
 
 module _ {buffer numbers links : List ℕ} where
-  refused-small : {k : Found} {f : Fault} → JoinRefused buffer numbers links k f → f.place ≤ 65535
+  refused-small : {k : Option ℕ} {f : Fault} → JoinRefused buffer numbers links k f → f.place ≤ 65535
   refused-small (JoinRefused.long u) = omega arith
   refused-small (JoinRefused.ninth short u) = omega arith
   refused-small (JoinRefused.outside short few k lt u) = omega arith
@@ -143,7 +143,7 @@ module _ {buffer numbers links : List ℕ} where
   refused-small (JoinRefused.tables l p right u) = omega arith
   refused-small (JoinRefused.joined l p right one w) = omega (arith, joined_small (legal-few l p) right w)
 
-  refused-number : {k : Found} {f : Fault} → JoinRefused buffer numbers links k f → 1 ≤ f.number
+  refused-number : {k : Option ℕ} {f : Fault} → JoinRefused buffer numbers links k f → 1 ≤ f.number
   refused-number (JoinRefused.long u) = omega arith
   refused-number (JoinRefused.ninth short u) = omega arith
   refused-number (JoinRefused.outside short few k lt u) = omega arith
@@ -165,21 +165,21 @@ join-size-most buffer numbers links bytes q l =
 -- The call.
 module _ (buffer numbers links image : List ℕ) where
   refused-at : (f : Fault) → (join_of buffer numbers links image).answer ≡ refused f →
-      (k : Found) × JoinRefusedAt buffer numbers links image k f
+      (k : Option ℕ) × JoinRefusedAt buffer numbers links image k f
   refused-at f e = (_, (((join-exactly buffer numbers links image).refuses _ f _).0 (e, refl, refl)).0)
 
   pub join-places-small : AreBytes buffer → (f : Fault) → (join_of buffer numbers links image).answer ≡ refused f →
       f.place ≤ 65535
   join-places-small bytes f e = go (refused-at f e).1
     where
-      go : {k : Found} {g : Fault} → JoinRefusedAt buffer numbers links image k g → g.place ≤ 65535
+      go : {k : Option ℕ} {g : Fault} → JoinRefusedAt buffer numbers links image k g → g.place ≤ 65535
       go (JoinRefusedAt.pair r) = refused-small r
       go (JoinRefusedAt.space {q = q} l lt) = omega (arith, join-size-most buffer numbers links bytes q l)
 
   pub join-number : (f : Fault) → (join_of buffer numbers links image).answer ≡ refused f → 1 ≤ f.number
   join-number f e = go (refused-at f e).1
     where
-      go : {k : Found} {g : Fault} → JoinRefusedAt buffer numbers links image k g → 1 ≤ g.number
+      go : {k : Option ℕ} {g : Fault} → JoinRefusedAt buffer numbers links image k g → 1 ≤ g.number
       go (JoinRefusedAt.pair r) = refused-number r
       go (JoinRefusedAt.space l lt) = omega arith
 

@@ -1,4 +1,5 @@
 -- The chains of a part keep their latency when it is joined: phases, order and reads within a part stay. Assumes nothing.
+use Rattle.std.specs.Prelude.{Option, Some, None}
 use Prim.Native.Nat.{ℕ, zero, suc, ◌+◌, ◌≤◌, ◌<◌}
 use mathlib.Core.Bool.{Bool, true, false, cond}
 use mathlib.Core.List.{List, [], ◌∷◌, map, reverse_aux}
@@ -50,8 +51,6 @@ use Rattle.model.specs.Rules.Program.{Program, Signal, Body, input, equation, re
 use Rattle.model.specs.Rules.Rates.{count_reads, is_linked}
 use Rattle.model.specs.Rules.Reads.{Rate, uses}
 use Rattle.model.specs.Rules.Schedule.{Schedule}
-use Rattle.model.specs.declared.Found.{Found}
-use Rattle.model.specs.declared.Found.TheVariants.{At, Nowhere}
 use Rattle.model.specs.declared.Mode.{Mode}
 use Rattle.model.specs.declared.Mode.TheVariants.{Exists, Backward}
 use Rattle.model.proofs.Basics.All.{all_append, all-at, all_map, all_of_map, all_both}
@@ -105,14 +104,14 @@ module _ (p : Program) (s : Schedule) (p' : Program) (s' : Schedule) (f : ℕ �
       run_latency p' s' (f r) (map (renumber_read f) ρs) k ≡ run_latency p s r ρs k
   unfolding run_latency
   latency-kept ρs r k lt ch =
-      ap₂ (λ (a : ℕ) (g : Found). latency_from p' s' (f r) k a g) (source-kept ρs r) (back-kept ρs r k lt ch) ∙
+      ap₂ (λ (a : ℕ) (g : Option ℕ). latency_from p' s' (f r) k a g) (source-kept ρs r) (back-kept ρs r k lt ch) ∙
       go (back p s r k ρs)
     where
-      go : (g : Found) → latency_from p' s' (f r) k (f (source p s r ρs)) g ≡ latency_from p s r k (source p s r ρs) g
-      go (At m) =
-          ap₂ (λ (a b : Rate). At (latency_of a k b m)) (embeds.rates r lt)
+      go : (g : Option ℕ) → latency_from p' s' (f r) k (f (source p s r ρs)) g ≡ latency_from p s r k (source p s r ρs) g
+      go (Some m) =
+          ap₂ (λ (a b : Rate). Some (latency_of a k b m)) (embeds.rates r lt)
           (embeds.rates (source p s r ρs) (source-count p s ρs r lt ch))
-      go Nowhere = refl
+      go None = refl
 
   timely-kept : (mode : Mode) (r : ℕ) (ρs : List Read) (bound : ℕ) → r < count p → ChainMet p s r ρs →
       Timely p s mode r ρs bound → Timely p' s' mode (f r) (map (renumber_read f) ρs) bound

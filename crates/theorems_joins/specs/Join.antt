@@ -1,6 +1,6 @@
 -- Parts joined with links: what a link has to name, when its read is met, the equations of all parts and links together, and the
 -- refusals of a join, in the paper's words.
-use Rattle.std.specs.Prelude.{ℕ, suc, ◌+◌, ◌*◌, ◌≤◌, ◌<◌, cond, ◌&&◌, List, [], ◌∷◌, ◌⊎◌, ◌≡◌, eqb, ℤ, length}
+use Rattle.std.specs.Prelude.{Option, Some, None, ℕ, suc, ◌+◌, ◌*◌, ◌≤◌, ◌<◌, cond, ◌&&◌, List, [], ◌∷◌, ◌⊎◌, ◌≡◌, eqb, ℤ, length}
 use Rattle.model.specs.Rules.Compile.{Pair}
 use Rattle.model.specs.Rules.Join.{
   PartTexts,
@@ -20,8 +20,6 @@ use Rattle.model.specs.Rules.Reads.{settled}
 use Rattle.model.specs.Rules.Schedule.{phase_of}
 use Rattle.model.specs.Says.Feasible.{All, Feasible, Multiple, Least}
 use Rattle.model.specs.declared.Fault.{Fault}
-use Rattle.model.specs.declared.Found.{Found}
-use Rattle.model.specs.declared.Found.TheVariants.{At, Nowhere}
 use Rattle.theorems_pairs.specs.Conditions.{◌among◌, Over, LegalPair}
 use Rattle.theorems_streams.specs.Held.{IsInput}
 use Rattle.theorems_pairs.specs.Refusals.{LowestFault, LoadFault, RefusedAt}
@@ -170,25 +168,25 @@ module _ (buffer numbers links : List ℕ) where
     pub joined : JoinedLegal parts (links_of links) q
 
   -- It is refused, in the order stated; a refusal inside a part names the part.
-  pub data JoinRefused : Found → Fault → Type 0 where
+  pub data JoinRefused : Option ℕ → Fault → Type 0 where
     -- 1 the program texts together over 8,192 bytes (0).
-    long : ¬ (program_total numbers ≤ 8192) → JoinRefused Nowhere (fault 1 0)
+    long : ¬ (program_total numbers ≤ 8192) → JoinRefused None (fault 1 0)
     -- 4 a ninth part (0).
-    ninth : program_total numbers ≤ 8192 → ¬ (parts_in numbers ≤ 8) → JoinRefused Nowhere (fault 4 0)
+    ninth : program_total numbers ≤ 8192 → ¬ (parts_in numbers ≤ 8) → JoinRefused None (fault 4 0)
     -- 27 a text that leaves its lent buffer (0).
     outside : program_total numbers ≤ 8192 → parts_in numbers ≤ 8 → (k : ℕ) → k < parts_in numbers →
-        ¬ BothLent buffer (texts_at numbers k) → JoinRefused Nowhere (fault 27 0)
+        ¬ BothLent buffer (texts_at numbers k) → JoinRefused None (fault 27 0)
     -- A refusal inside part k, those before it being accepted.
     inside : {f : Fault} → TextsLent buffer numbers → (k : ℕ) → k < parts_in numbers →
         ((j : ℕ) → j < k → (a : Part) × PartLegal buffer (texts_at numbers j) a) →
         RefusedAt (program_text buffer (texts_at numbers k)) (schedule_text buffer (texts_at numbers k)) f →
-        JoinRefused (At k) f
+        JoinRefused (Some k) f
     -- 31 the lowest wrong link.
     wrong : {f : Fault} {parts : List Part} → TextsLent buffer numbers → PartsLegal buffer numbers parts →
-        LowestFault (WrongLink parts links) f → JoinRefused Nowhere f
+        LowestFault (WrongLink parts links) f → JoinRefused None f
     -- 31 rows in two parts (0), after the links.
     tables : {parts : List Part} → TextsLent buffer numbers → PartsLegal buffer numbers parts → LinksRight parts links →
-        ¬ OneTable parts → JoinRefused Nowhere (fault 31 0)
+        ¬ OneTable parts → JoinRefused None (fault 31 0)
     -- 4, 9, 14, 15 of the joined pair.
     joined : {f : Fault} {parts : List Part} → TextsLent buffer numbers → PartsLegal buffer numbers parts →
-        LinksRight parts links → OneTable parts → JoinedRefused parts (links_of links) f → JoinRefused Nowhere f
+        LinksRight parts links → OneTable parts → JoinedRefused parts (links_of links) f → JoinRefused None f

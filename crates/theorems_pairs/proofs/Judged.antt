@@ -1,5 +1,6 @@
 -- Each check of the program text decides its condition, and refuses with the fault that the paper gives: 1, 7 to 10.
 -- Assumes nothing.
+use Rattle.std.specs.Prelude.{Option, Some, None}
 use Prim.Native.Nat.{ℕ, zero, suc, ◌+◌, ◌≤◌, ◌<◌}
 use mathlib.Core.Bool.{Bool, true, false, cond, ◌&&◌, false≢true, and-eq-true_iff}
 use mathlib.Core.List.{List, [], ◌∷◌, ◌++◌, map}
@@ -35,8 +36,6 @@ use Rattle.theorems_pairs.specs.Conditions.{◌among◌, ShortEnough, ReadIn, Li
 use Rattle.theorems_pairs.specs.Refusals.{LowestFault, RateFault, ChainFault}
 use Rattle.model.specs.declared.Declaration.TheVariants as Declaration
 use Rattle.model.specs.declared.Fault.{Fault}
-use Rattle.model.specs.declared.Found.{Found}
-use Rattle.model.specs.declared.Found.TheVariants.{At, Nowhere}
 use Rattle.model.specs.declared.Mode.TheVariants.{Exists}
 use Rattle.model.specs.declared.Sampled.{Sampled}
 use Rattle.model.proofs.Pairs.Decide.{true-periods, periods-true}
@@ -323,19 +322,19 @@ hypercycle-judged p =
       refuses = λ f. (forth f, back f);
     }
   where
-    None : Type 0
-    None = (h : ℕ) → h ≤ 240 → ¬ Multiple p h
+    NoMultiple : Type 0
+    NoMultiple = (h : ℕ) → h ≤ 240 → ¬ Multiple p h
 
-    only : (found : Found) (f : Fault) → hypercycle_of found ≡ refused f → fault 9 0 ≡ f
-    only (At h) f e = absurd (accepted≢refused _ (suc h) _ refl e)
-    only Nowhere f e = cc
+    only : (found : Option ℕ) (f : Fault) → hypercycle_of found ≡ refused f → fault 9 0 ≡ f
+    only (Some h) f e = absurd (accepted≢refused _ (suc h) _ refl e)
+    only None f e = cc
 
-    forth : (f : Fault) → hypercycle p ≡ refused f → Only 9 0 None f
+    forth : (f : Fault) → hypercycle p ≡ refused f → Only 9 0 NoMultiple f
     forth f e =
         let q = only (first_below 240 (λ h. is_multiple p.signals (suc h))) f e in
         rw (← q) (Only.only ((hypercycle-none p).0 (rw (← q) at e)))
 
-    back : (f : Fault) → Only 9 0 None f → hypercycle p ≡ refused f
+    back : (f : Fault) → Only 9 0 NoMultiple f → hypercycle p ≡ refused f
     back f (Only.only h) = (hypercycle-none p).1 h
 
 -- A check of every chain that gives the lowest LAT: `test` decides Q.

@@ -1,4 +1,5 @@
 -- The check of the rows decides its condition, and refuses with the fault that the paper gives: 29 and 30. Assumes nothing.
+use Rattle.std.specs.Prelude.{Option, Some, None}
 use Prim.Native.Nat.{ℕ, ◌+◌, ◌<◌}
 use mathlib.Core.Bool.{Bool, true, false, cond}
 use mathlib.Core.List.{List}
@@ -15,8 +16,6 @@ use Rattle.model.specs.Rules.Table.{Row, row_at}
 use Rattle.model.specs.Says.Grammar.{LegalProgram}
 use Rattle.model.specs.Says.Rows.{AllUpright, Covers, Disjoint, FirstMeets, Gap}
 use Rattle.model.specs.declared.Fault.{Fault}
-use Rattle.model.specs.declared.Found.{Found}
-use Rattle.model.specs.declared.Found.TheVariants.{At, Nowhere}
 use Rattle.theorems_pairs.specs.Conditions.{HasTable, Tabled}
 use Rattle.theorems_pairs.specs.Refusals.{TableFault}
 use Rattle.model.proofs.Rows.Decided.{
@@ -56,13 +55,13 @@ says : (rows : List Row) → AllUpright rows → Says rows (covering rows)
 unfolding covering ◌▷◌ provided
 says rows up = go (first_below (length rows) (meets_earlier rows)) refl (no_gap rows) refl
   where
-    go : (f : Found) → first_below (length rows) (meets_earlier rows) ≡ f → (t : Bool) → no_gap rows ≡ t →
+    go : (f : Option ℕ) → first_below (length rows) (meets_earlier rows) ≡ f → (t : Bool) → no_gap rows ≡ t →
         Says rows (meeting_of rows f ▷ λ _. provided t 30 0)
-    go (At n) e t k = Says.meets n (first-meets rows up n e)
-    go Nowhere e true k =
+    go (Some n) e t k = Says.meets n (first-meets rows up n e)
+    go None e true k =
         Says.covers
         (λ w f. let s = gapless-full rows up k w f in (s.0, s.1, λ m l. none-meets rows up e w f m s.0 l s.1))
-    go Nowhere e false k = Says.gaps (none-meets rows up e) (gap rows up (none-meets rows up e) k)
+    go None e false k = Says.gaps (none-meets rows up e) (gap rows up (none-meets rows up e) k)
 
 -- There is one right answer.
 module _ (rows : List Row) where

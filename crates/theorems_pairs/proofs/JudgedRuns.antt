@@ -1,5 +1,6 @@
 -- The checks of a pair: 14 to 16 decide the statements over all runs and all cycles, and refuse with the fault that the paper
 -- gives. Assumes nothing.
+use Rattle.std.specs.Prelude.{Option, Some, None}
 use Prim.Native.Nat.{ℕ, zero, suc, ◌+◌, ◌%◌, ◌≤◌, ◌<◌}
 use mathlib.Core.Bool.{Bool, true, false, cond, false≢true}
 use mathlib.Core.List.{List, [], ◌∷◌}
@@ -35,8 +36,6 @@ use Rattle.model.specs.Rules.Search.{first_below, sum, table_from, table, join_f
 use Rattle.theorems_pairs.specs.Conditions.{◌among◌, ReadIn, LegalPlaces, Over, KeepsTime}
 use Rattle.theorems_pairs.specs.Refusals.{LowestFault, MetFault, LoadFault, ChainFault}
 use Rattle.model.specs.declared.Fault.{Fault}
-use Rattle.model.specs.declared.Found.{Found}
-use Rattle.model.specs.declared.Found.TheVariants.{At, Nowhere}
 use Rattle.model.proofs.Pairs.Decide.{is-first, met-true, true-met}
 use Rattle.model.proofs.Texts.Legal.{read-sound}
 use Rattle.model.proofs.Basics.Outcomes.{not-true-false, accepted≢refused}
@@ -171,10 +170,10 @@ module _ (p : Program) (s : Schedule) (h : ℕ) (whole : Multiple p h) where
   earlier c o =
       (mod-lt c whole.positive, mod-le c h, rw (load-repeats p s h whole c) (true-over p.cap (load p s c) o))
 
-  found : (c : ℕ) → first_below h test ≡ At c → LowestFault (LoadFault p s) (fault 15 c)
+  found : (c : ℕ) → first_below h test ≡ Some c → LowestFault (LoadFault p s) (fault 15 c)
   unfolding test
   found c e =
-      let g = is-first h test (At c) e in
+      let g = is-first h test (Some c) e in
       record {
         fault = LoadFault.over c (over-true p.cap (load p s c) g.2);
         least = λ k f. least g.3 f;
@@ -187,11 +186,11 @@ module _ (p : Program) (s : Schedule) (h : ℕ) (whole : Multiple p h) where
           go (yes lt) = absurd (false≢true (sym (g (y % h) (omega arith) lt) ∙ (earlier y o).2))
           go (no ge) = omega (arith, (earlier y o).1)
 
-  nowhere : first_below h test ≡ Nowhere → (c : ℕ) → ¬ Over p.cap (load p s c)
+  nowhere : first_below h test ≡ None → (c : ℕ) → ¬ Over p.cap (load p s c)
   unfolding test
   nowhere e c o =
       let q = earlier c o in
-      false≢true (sym (is-first h test Nowhere e (c % h) (omega arith) (omega (arith, q.0))) ∙ q.2)
+      false≢true (sym (is-first h test None e (c % h) (omega arith) (omega (arith, q.0))) ∙ q.2)
 
   pub loaded-judged : Judged (λ u. (c : ℕ) → ¬ Over p.cap (load p s c)) (LowestFault (LoadFault p s)) (loaded p s h)
   unfolding loaded test
@@ -201,25 +200,25 @@ module _ (p : Program) (s : Schedule) (h : ℕ) (whole : Multiple p h) where
         refuses = λ g. (λ e. fails (first_below h test) refl e, λ f. loud f (first_below h test) refl);
       }
     where
-      passes : (f : Found) → first_below h test ≡ f → loaded_of f ≡ accepted tt → (c : ℕ) → ¬ Over p.cap (load p s c)
-      passes (At c) q e = absurd (accepted≢refused _ tt _ e refl)
-      passes Nowhere q e = nowhere q
+      passes : (f : Option ℕ) → first_below h test ≡ f → loaded_of f ≡ accepted tt → (c : ℕ) → ¬ Over p.cap (load p s c)
+      passes (Some c) q e = absurd (accepted≢refused _ tt _ e refl)
+      passes None q e = nowhere q
 
-      quiet : ((c : ℕ) → ¬ Over p.cap (load p s c)) → (f : Found) → first_below h test ≡ f → loaded_of f ≡ accepted tt
-      quiet g (At c) q = absurd (g c (over-true p.cap (load p s c) (is-first h test (At c) q).2))
-      quiet g Nowhere q = refl
+      quiet : ((c : ℕ) → ¬ Over p.cap (load p s c)) → (f : Option ℕ) → first_below h test ≡ f → loaded_of f ≡ accepted tt
+      quiet g (Some c) q = absurd (g c (over-true p.cap (load p s c) (is-first h test (Some c) q).2))
+      quiet g None q = refl
 
-      fails : {g : Fault} (f : Found) → first_below h test ≡ f → loaded_of f ≡ refused g → LowestFault (LoadFault p s) g
-      fails {g} (At c) q e = let same : fault 15 c ≡ g = cc in rw (← same) (found c q)
-      fails Nowhere q e = absurd (accepted≢refused _ tt _ refl e)
+      fails : {g : Fault} (f : Option ℕ) → first_below h test ≡ f → loaded_of f ≡ refused g → LowestFault (LoadFault p s) g
+      fails {g} (Some c) q e = let same : fault 15 c ≡ g = cc in rw (← same) (found c q)
+      fails None q e = absurd (accepted≢refused _ tt _ refl e)
 
-      loud : {k : Fault} → LowestFault (LoadFault p s) k → (f : Found) → first_below h test ≡ f → loaded_of f ≡ refused k
-      loud g (At c) q = same g.fault ((found c q).least _ g.fault) (g.least _ (found c q).fault)
+      loud : {k : Fault} → LowestFault (LoadFault p s) k → (f : Option ℕ) → first_below h test ≡ f → loaded_of f ≡ refused k
+      loud g (Some c) q = same g.fault ((found c q).least _ g.fault) (g.least _ (found c q).fault)
         where
           same : {k : Fault} → LoadFault p s k → c ≤ k.place → k.place ≤ c →
               ◌≡◌ {A = Outcome (Unit {0})} (refused (fault 15 c)) (refused k)
           same (LoadFault.over y o) a b = let w : c ≡ y = omega arith in rw w
-      loud g Nowhere q = absurd (never g.fault)
+      loud g None q = absurd (never g.fault)
         where
           never : {k : Fault} → ¬ LoadFault p s k
           never (LoadFault.over y o) = nowhere q y o

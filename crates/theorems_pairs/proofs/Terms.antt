@@ -1,4 +1,5 @@
 -- The terms that the conditions are written in are what the paper says of them. Assumes nothing.
+use Rattle.std.specs.Prelude.{Option, Some, None}
 use Prim.Native.Nat.{ℕ, zero, suc, ◌+◌, ◌*◌, ◌-◌, ◌/◌, ◌%◌, ◌≤◌, ◌<◌}
 use mathlib.Core.Bool.{Bool, true, false, cond}
 use mathlib.Core.List.{List, [], ◌∷◌, map, reverse_aux}
@@ -29,8 +30,6 @@ use Rattle.model.specs.Rules.Reads.{rate_of, run_cycle, uses, due, rank, settled
 use Rattle.model.specs.Rules.Schedule.{Schedule, Put, phase_of, put_phase, schedule_of}
 use Rattle.model.specs.Rules.Search.{table_from, table, sum}
 use Rattle.model.specs.Says.Feasible.{All, PutBefore, SettlesAt, Met, Ordered, Feasible}
-use Rattle.model.specs.declared.Found.{Found}
-use Rattle.model.specs.declared.Found.TheVariants.{At, Nowhere}
 use Rattle.model.specs.declared.Kind.{Kind}
 use Rattle.model.specs.declared.Kind.TheVariants.{Now, Last, When, LastWhen, Current}
 use Rattle.model.specs.declared.Mode.{Mode}
@@ -353,28 +352,28 @@ module _ (program schedule : List ℕ) (p : Program) (h : ℕ) (s : Schedule) (c
 
     -- All the way back.
     returns : (ws : List ℕ) (r k m : ℕ) → All (λ w. w < count p) (r ∷ ws) → LinkedBack p (r ∷ ws) →
-        back p s r k (reads_back p r ws) ≡ At m → Returns p s (r ∷ ws) (source p s r (reads_back p r ws)) m r k
+        back p s r k (reads_back p r ws) ≡ Some m → Returns p s (r ∷ ws) (source p s r (reads_back p r ws)) m r k
     unfolding back source reads_back
     returns [] r k m d l e = let q : k ≡ m = cc in rw q Returns.one
     returns (w ∷ ws) r k m d l e =
         let of = (found r w d.0 l.0).1 in
         let u = used p s r k (ρ r w d.0 l.0) in
         subst (λ v. Returns p s (r ∷ (w ∷ ws)) (source p s v (reads_back p w ws)) m r k) (sym of)
-        (go u refl (subst (λ v. onward (λ j. back p s v j (reads_back p w ws)) u ≡ At m) of e)
+        (go u refl (subst (λ v. onward (λ j. back p s v j (reads_back p w ws)) u ≡ Some m) of e)
         (λ j. returns ws w j m d.1 l.1))
       where
         ρs : List Read
         ρs = reads_back p w ws
 
-        go : (u : ℕ) → used p s r k (ρ r w d.0 l.0) ≡ u → onward (λ j. back p s w j ρs) u ≡ At m →
-            ((j : ℕ) → back p s w j ρs ≡ At m → Returns p s (w ∷ ws) (source p s w ρs) m w j) →
+        go : (u : ℕ) → used p s r k (ρ r w d.0 l.0) ≡ u → onward (λ j. back p s w j ρs) u ≡ Some m →
+            ((j : ℕ) → back p s w j ρs ≡ Some m → Returns p s (w ∷ ws) (source p s w ρs) m w j) →
             Returns p s (r ∷ (w ∷ ws)) (source p s w ρs) m r k
         go zero q f ih = let z : ◌≡◌ {A = ℕ} 0 1 = cc in absurd (omega arith)
         go (suc j) q f ih = Returns.more ((hop r w d.0 l.0 k j).0 q) (ih j f)
 
     returned : {y z m k : ℕ} (ws : List ℕ) (r : ℕ) → All (λ w. w < count p) (r ∷ ws) → LinkedBack p (r ∷ ws) →
         Returns p s (r ∷ ws) y m z k →
-        (z ≡ r) × (y ≡ source p s r (reads_back p r ws)) × (back p s r k (reads_back p r ws) ≡ At m)
+        (z ≡ r) × (y ≡ source p s r (reads_back p r ws)) × (back p s r k (reads_back p r ws) ≡ Some m)
     unfolding back source reads_back
     returned [] r d l Returns.one = (refl, refl, refl)
     returned {y} {m = m} {k = k} (w ∷ ws) r d l (Returns.more {j = j} h t) =
@@ -384,7 +383,7 @@ module _ (program schedule : List ℕ) (p : Program) (h : ℕ) (s : Schedule) (c
           refl,
           subst (λ v. y ≡ source p s v (reads_back p w ws)) of u.1,
           ap (onward (λ i. back p s (ρ r w d.0 l.0).operands.signal i (reads_back p w ws))) uses ∙
-              subst (λ v. back p s v j (reads_back p w ws) ≡ At m) of u.2,
+              subst (λ v. back p s v j (reads_back p w ws) ≡ Some m) of u.2,
         )
 
     -- The latency of a run of a chain.
@@ -441,17 +440,17 @@ module _ (program schedule : List ℕ) (p : Program) (h : ℕ) (s : Schedule) (c
         all-linked : LinkedBack p (r ∷ ws)
         all-linked = subst (LinkedBack p) from linked
 
-        adds : (k m : ℕ) → back p s r k ρs ≡ At m →
+        adds : (k m : ℕ) → back p s r k ρs ≡ Some m →
             latency_of (rate_of p s r) k (rate_of p s x) m + run_cycle (rate_of p s x) m ≡ run_cycle (rate_of p s r) k + 1
         adds = latency-adds p s accepts r ρs all-declared.0 (chain-met p s accepts ws r all-declared all-linked)
 
         -- A run counts with this latency exactly if the definition says so.
-        counts-exactly : (k l : ℕ) → (run_latency p s r ρs k ≡ At l) ↔ CountedRun p s a k l
+        counts-exactly : (k l : ℕ) → (run_latency p s r ρs k ≡ Some l) ↔ CountedRun p s a k l
         unfolding run_latency
         counts-exactly k l = (λ e. counted (back p s r k ρs) refl e, runs)
           where
-            counted : (f : Found) → back p s r k ρs ≡ f → latency_from p s r k x f ≡ At l → CountedRun p s a k l
-            counted (At m) e t =
+            counted : (f : Option ℕ) → back p s r k ρs ≡ f → latency_from p s r k x f ≡ Some l → CountedRun p s a k l
+            counted (Some m) e t =
                 let same : latency_of (rate_of p s r) k (rate_of p s x) m ≡ l = cc in
                 record {
                   first = x;
@@ -460,9 +459,9 @@ module _ (program schedule : List ℕ) (p : Program) (h : ℕ) (s : Schedule) (c
                   way = way_back.1 (rw from (returns ws r k m all-declared all-linked e));
                   latency = omega (arith, adds k m e);
                 }
-            counted Nowhere e t = let z : ◌≡◌ {A = ℕ} 0 1 = cc in absurd (omega arith)
+            counted None e t = let z : ◌≡◌ {A = ℕ} 0 1 = cc in absurd (omega arith)
 
-            runs : CountedRun p s a k l → latency_from p s r k x (back p s r k ρs) ≡ At l
+            runs : CountedRun p s a k l → latency_from p s r k x (back p s r k ρs) ≡ Some l
             runs t =
                 let u = returned ws r all-declared all-linked (rw from at (way_back.0 t.way)) in
                 let add = adds k t.m u.2 in
@@ -470,7 +469,7 @@ module _ (program schedule : List ℕ) (p : Program) (h : ℕ) (s : Schedule) (c
                 subst (λ z. l + run_cycle (rate_of p s x) t.m ≡ run_cycle (rate_of p s z) k + 1) u.0
                 (subst (λ y. l + run_cycle (rate_of p s y) t.m ≡ run_cycle (rate_of p s t.last) k + 1) u.1 t.latency) in
                 let same : latency_of (rate_of p s r) k (rate_of p s x) t.m ≡ l = omega arith in
-                rw u.2 (ap At same)
+                rw u.2 (ap Some same)
 
         timely-exactly : (mode : Mode) → Timely p s mode r ρs a.bound ↔ InTime p s mode a
         timely-exactly Backward = (

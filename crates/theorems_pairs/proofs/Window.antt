@@ -1,5 +1,6 @@
 -- Going back along a chain of reads repeats with the hypercycle, so that a window of runs decides the constraint of a chain.
 -- Assumes nothing.
+use Rattle.std.specs.Prelude.{Option, Some, None}
 use Prim.Native.Nat.{ℕ, zero, suc, ◌+◌, ◌*◌, ◌-◌, ◌/◌, ◌%◌, ◌≤◌, ◌<◌}
 use mathlib.Core.Bool.{true, not, false≢true}
 use mathlib.Core.List.{List, [], ◌∷◌}
@@ -33,8 +34,6 @@ use Rattle.model.specs.Rules.Schedule.{Schedule}
 use Rattle.model.specs.Rules.Rates.{is_linked}
 use Rattle.theorems_pairs.specs.Latency.{Timely, WindowDecides}
 use Rattle.theorems_pairs.specs.Conditions.{TimelyFrom, KeepsTime}
-use Rattle.model.specs.declared.Found.{Found}
-use Rattle.model.specs.declared.Found.TheVariants.{At, Nowhere}
 use Rattle.model.specs.declared.Mode.{Mode}
 use Rattle.model.specs.declared.Mode.TheVariants.{Exists, Backward}
 use Rattle.model.proofs.Pairs.Decide.{all_true, true-all, is_found-true, true-is_found}
@@ -49,20 +48,20 @@ module _ (p : Program) (s : Schedule) where
   -- A run of the window that goes back over as many cycles as run k does to element m.
   abbrev pub Repeats : (h r : ℕ) → List Read → (k m : ℕ) → Type 0
   Repeats h r ρs k m =
-      (i m' : ℕ) × (i < window_of p s h r) × (back p s r (from_of p s h r ρs + i) ρs ≡ At m') ×
+      (i m' : ℕ) × (i < window_of p s h r) × (back p s r (from_of p s h r ρs + i) ρs ≡ Some m') ×
       (run_cycle (rate_of p s r) k + run_cycle (rate_of p s (source p s r ρs)) m' ≡
       run_cycle (rate_of p s r) (from_of p s h r ρs + i) + run_cycle (rate_of p s (source p s r ρs)) m)
 
-  late-not : (bound : ℕ) (f : Found) → not (is_late p s bound f) ≡ true → (l : ℕ) → f ≡ At l → l ≤ bound
+  late-not : (bound : ℕ) (f : Option ℕ) → not (is_late p s bound f) ≡ true → (l : ℕ) → f ≡ Some l → l ≤ bound
   late-not bound f e l q = ltb-false bound l (not-true _ (rw q at e))
 
-  not_late : (bound : ℕ) (f : Found) → ((l : ℕ) → f ≡ At l → l ≤ bound) → not (is_late p s bound f) ≡ true
-  not_late bound (At l) g = rw (le-ltb bound l (g l refl))
-  not_late bound Nowhere g = refl
+  not_late : (bound : ℕ) (f : Option ℕ) → ((l : ℕ) → f ≡ Some l → l ≤ bound) → not (is_late p s bound f) ≡ true
+  not_late bound (Some l) g = rw (le-ltb bound l (g l refl))
+  not_late bound None g = refl
 
-  in-time : (bound : ℕ) (f : Found) → is_in_time p s bound f ≡ true → (l : ℕ) × (f ≡ At l) × (l ≤ bound)
-  in-time bound (At l) e = (l, refl, leb-true l bound e)
-  in-time bound Nowhere e = absurd (false≢true e)
+  in-time : (bound : ℕ) (f : Option ℕ) → is_in_time p s bound f ≡ true → (l : ℕ) × (f ≡ Some l) × (l ≤ bound)
+  in-time bound (Some l) e = (l, refl, leb-true l bound e)
+  in-time bound None e = absurd (false≢true e)
 
   module _ (acc : Feasible p s) (h : ℕ) (hyper : Multiple p h) where
     -- The runs of x fill the hypercycle, and there is one.
@@ -87,10 +86,10 @@ module _ (p : Program) (s : Schedule) where
         ap (◌+ c * runs p h w) (used-is p s acc r ρ k lt m)
 
     -- And the same way back is gone c hypercycles later.
-    pub back-shift : (ρs : List Read) (r k c m : ℕ) → r < count p → ChainMet p s r ρs → back p s r k ρs ≡ At m →
-        back p s r (k + c * runs p h r) ρs ≡ At (m + c * runs p h (source p s r ρs))
+    pub back-shift : (ρs : List Read) (r k c m : ℕ) → r < count p → ChainMet p s r ρs → back p s r k ρs ≡ Some m →
+        back p s r (k + c * runs p h r) ρs ≡ Some (m + c * runs p h (source p s r ρs))
     unfolding back source
-    back-shift [] r k c m lt ch e = let q : k ≡ m = cc in ap (λ x. At (x + c * runs p h r)) q
+    back-shift [] r k c m lt ch e = let q : k ≡ m = cc in ap (λ x. Some (x + c * runs p h r)) q
     back-shift (ρ ∷ ρs) r k c m lt ch e =
         rw (used-shift r k c ρ lt ch.0)
         (go (used p s r k ρ) e (λ j f. back-shift ρs ρ.operands.signal j c m ch.0.declared ch.1 f))
@@ -98,15 +97,15 @@ module _ (p : Program) (s : Schedule) where
         w : ℕ
         w = ρ.operands.signal
 
-        go : (j : ℕ) → onward (λ m. back p s w m ρs) j ≡ At m →
-            ((j : ℕ) → back p s w j ρs ≡ At m → back p s w (j + c * runs p h w) ρs ≡ At (m + c * runs p h (source p s w ρs))) →
-            onward (λ m. back p s w m ρs) (j + c * runs p h w) ≡ At (m + c * runs p h (source p s w ρs))
+        go : (j : ℕ) → onward (λ m. back p s w m ρs) j ≡ Some m →
+            ((j : ℕ) → back p s w j ρs ≡ Some m → back p s w (j + c * runs p h w) ρs ≡ Some (m + c * runs p h (source p s w ρs))) →
+            onward (λ m. back p s w m ρs) (j + c * runs p h w) ≡ Some (m + c * runs p h (source p s w ρs))
         go zero f ih = let z : ◌≡◌ {A = ℕ} 0 1 = cc in absurd (omega arith)
         go (suc j) f ih = rw suc-add (ih j f)
 
     -- After as many hypercycles as there are reads every run counts.
     pub back-enough : (ρs : List Read) (r k : ℕ) → r < count p → ChainMet p s r ρs → length ρs * runs p h r ≤ k →
-        (m : ℕ) × (back p s r k ρs ≡ At m)
+        (m : ℕ) × (back p s r k ρs ≡ Some m)
     unfolding back
     back-enough [] r k lt ch le = (k, refl)
     back-enough (ρ ∷ ρs) r k lt ch le =
@@ -124,14 +123,14 @@ module _ (p : Program) (s : Schedule) where
             let f = used-shift r (k - n * runs p h r) n ρ lt ch.0 in
             omega (arith, rw e at f)
 
-        go : (j : ℕ) → n * runs p h w ≤ j → ((j : ℕ) → length ρs * runs p h w ≤ j → (m : ℕ) × (back p s w j ρs ≡ At m)) →
-            (m : ℕ) × (onward (λ m. back p s w m ρs) j ≡ At m)
+        go : (j : ℕ) → n * runs p h w ≤ j → ((j : ℕ) → length ρs * runs p h w ≤ j → (m : ℕ) × (back p s w j ρs ≡ Some m)) →
+            (m : ℕ) × (onward (λ m. back p s w m ρs) j ≡ Some m)
         go zero g ih = absurd (omega (arith, some-run w ch.0.declared))
         go (suc j) g ih = ih j (omega (arith, some-run w ch.0.declared))
 
     module _ (r : ℕ) (ρs : List Read) (lt : r < count p) (ch : ChainMet p s r ρs) where
       -- Every run that counts has such a run: run k, n hypercycles later, is a run of the window some hypercycles later.
-      pub window : (k m : ℕ) → back p s r k ρs ≡ At m → Repeats h r ρs k m
+      pub window : (k m : ℕ) → back p s r k ρs ≡ Some m → Repeats h r ρs k m
       unfolding window_of from_of
       window k m e =
           let a = source p s r ρs in
@@ -160,8 +159,8 @@ module _ (p : Program) (s : Schedule) where
           )
 
       -- Every latency that occurs is one of a run of the window.
-      pub window-latency : (k l : ℕ) → run_latency p s r ρs k ≡ At l →
-          (i : ℕ) × (i < window_of p s h r) × (run_latency p s r ρs (from_of p s h r ρs + i) ≡ At l)
+      pub window-latency : (k l : ℕ) → run_latency p s r ρs k ≡ Some l →
+          (i : ℕ) × (i < window_of p s h r) × (run_latency p s r ρs (from_of p s h r ρs + i) ≡ Some l)
       unfolding run_latency latency_of
       window-latency k l e = go (back p s r k ρs) refl e
         where
@@ -171,14 +170,14 @@ module _ (p : Program) (s : Schedule) where
           from : ℕ
           from = from_of p s h r ρs
 
-          go : (f : Found) → back p s r k ρs ≡ f → latency_from p s r k a f ≡ At l →
-              (i : ℕ) × (i < window_of p s h r) × (latency_from p s r (from + i) a (back p s r (from + i) ρs) ≡ At l)
-          go (At m) q t =
+          go : (f : Option ℕ) → back p s r k ρs ≡ f → latency_from p s r k a f ≡ Some l →
+              (i : ℕ) × (i < window_of p s h r) × (latency_from p s r (from + i) a (back p s r (from + i) ρs) ≡ Some l)
+          go (Some m) q t =
               let f = window k m q in
               let d : latency_of (rate_of p s r) (from + f.0) (rate_of p s a) f.1 ≡ latency_of (rate_of p s r) k (rate_of p s a) m =
               omega (arith, f.4) in
-              (f.0, f.2, rw f.3 (ap At d ∙ t))
-          go Nowhere q t = let z : ◌≡◌ {A = ℕ} 0 1 = cc in absurd (omega arith)
+              (f.0, f.2, rw f.3 (ap Some d ∙ t))
+          go None q t = let z : ◌≡◌ {A = ℕ} 0 1 = cc in absurd (omega arith)
 
       -- The runs of the window decide the constraint.
       pub window-decides : (mode : Mode) (bound : ℕ) → WindowDecides p s h r mode ρs bound
@@ -206,9 +205,9 @@ module _ (p : Program) (s : Schedule) where
           omega (arith, g (length ρs * runs p h r) _ (ap (latency_from p s r _ (source p s r ρs)) b.1))
       bound-positive Exists bound (k, l, e, le) = go (back p s r k ρs) e
         where
-          go : (f : Found) → latency_from p s r k (source p s r ρs) f ≡ At l → 0 < bound
-          go (At m) q = let same : latency_of (rate_of p s r) k (rate_of p s (source p s r ρs)) m ≡ l = cc in omega arith
-          go Nowhere q = let z : ◌≡◌ {A = ℕ} 0 1 = cc in absurd (omega arith)
+          go : (f : Option ℕ) → latency_from p s r k (source p s r ρs) f ≡ Some l → 0 < bound
+          go (Some m) q = let same : latency_of (rate_of p s r) k (rate_of p s (source p s r ρs)) m ≡ l = cc in omega arith
+          go None q = let z : ◌≡◌ {A = ℕ} 0 1 = cc in absurd (omega arith)
 
 module _ (p : Program) (s : Schedule) where
   module _ (acc : Feasible p s) where

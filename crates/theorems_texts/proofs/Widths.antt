@@ -1,5 +1,6 @@
 -- The lists of widths belong to the decoders (`widths-listed`): which bytes they list, by one computed test a list, and how far
 -- a command reaches. Assumes nothing.
+use Rattle.std.specs.Prelude.{Option, Some, None}
 use Prim.Native.Nat.{ℕ, ◌+◌, ◌≤◌, ◌<◌}
 use mathlib.Core.Bool.{Bool, true, beq}
 use mathlib.Core.List.{List}
@@ -57,8 +58,6 @@ use Rattle.model.specs.declared.Operator.{Operator}
 use Rattle.model.specs.declared.ScheduleCommand.{ScheduleCommand}
 use Rattle.model.specs.declared.Unary.{Unary}
 use Rattle.model.specs.declared.Unary.TheVariants.{Negate, Table}
-use Rattle.model.specs.declared.Width.{Width}
-use Rattle.model.specs.declared.Width.TheVariants.{Bytes, Unlisted}
 use Rattle.model.proofs.Pairs.Decide.{beq-true, all_true}
 use Rattle.model.proofs.Texts.Picks.{plain-width, sampled-width}
 use Rattle.model.proofs.Texts.Written.{declaration-written, operator-written, put_written, code-written}
@@ -108,13 +107,13 @@ module _ (text : List ℕ) (m : ℕ) where
   short = rw (length-take m text) (omega arith)
 
 -- A list has n for a byte, or nothing.
-abbrev at_most : Width → ℕ → Bool
-at_most (Bytes k) n = eqb k n
-at_most Unlisted n = true
+abbrev at_most : Option ℕ → ℕ → Bool
+at_most (Some k) n = eqb k n
+at_most None n = true
 
-has : (w : Width) (k n : ℕ) → w ≡ Bytes k → at_most w n ≡ true → k ≡ n
-has (Bytes j) k n e t = let f : j ≡ k = cc in sym f ∙ eqb-true j n t
-has Unlisted k n e t = let z : ◌≡◌ {A = ℕ} 0 1 = cc in absurd (omega arith)
+has : (w : Option ℕ) (k n : ℕ) → w ≡ Some k → at_most w n ≡ true → k ≡ n
+has (Some j) k n e t = let f : j ≡ k = cc in sym f ∙ eqb-true j n t
+has None k n e t = let z : ◌≡◌ {A = ℕ} 0 1 = cc in absurd (omega arith)
 
 -- A decoder, and when a command stands written: it has n bytes, which its lists confirm, and stands written too in the text
 -- that is cut after them.

@@ -1,5 +1,5 @@
 -- What the lists of widths say of the decoders.
-use Rattle.std.specs.Prelude.{ℕ, ◌+◌, ◌≤◌, ◌<◌, Bool, true, false, List, [], ◌∷◌, ◌↔◌, ◌≡◌, take}
+use Rattle.std.specs.Prelude.{Option, Some, ℕ, ◌+◌, ◌≤◌, ◌<◌, Bool, true, false, List, [], ◌∷◌, ◌↔◌, ◌≡◌, take}
 use Rattle.model.specs.Rules.Command.{declaration_at, operator_at}
 use Rattle.model.specs.Rules.Machine.{code_at}
 use Rattle.model.specs.Rules.Schedule.{schedule_command_at}
@@ -14,8 +14,6 @@ use Rattle.model.specs.declared.Operator.{Operator}
 use Rattle.model.specs.declared.Operator.TheVariants as Operator
 use Rattle.model.specs.declared.ScheduleCommand.{ScheduleCommand}
 use Rattle.model.specs.declared.ScheduleCommand.TheVariants as ScheduleCommand
-use Rattle.model.specs.declared.Width.{Width}
-use Rattle.model.specs.declared.Width.TheVariants.{Bytes}
 
 -- The bytes that are known: those that aren't unknown, whatever follows them.
 abbrev is_declaration_known : Declaration → Bool
@@ -76,10 +74,10 @@ Reaches decode text at n = (m : ℕ) → (decode (take m text) at ≡ decode tex
 
 -- A list of widths belongs to a decoder: a byte has a width exactly if the decoder knows it, and a command that is read whole
 -- reaches exactly as far as its width.
-pub record ListOf {C : Type 0} (width : ℕ → Width) (known : ℕ → Bool) (decode : List ℕ → ℕ → C) (Read : C → Type 0)
+pub record ListOf {C : Type 0} (width : ℕ → Option ℕ) (known : ℕ → Bool) (decode : List ℕ → ℕ → C) (Read : C → Type 0)
     : Type 0 where
   pub listed : (b : ℕ) → b < 256 → is_listed (width b) ≡ known b
-  pub reaches : (text : List ℕ) (at n : ℕ) → Read (decode text at) → width (byte_at text at) ≡ Bytes n → Reaches decode text at n
+  pub reaches : (text : List ℕ) (at n : ℕ) → Read (decode text at) → width (byte_at text at) ≡ Some n → Reaches decode text at n
 
 -- The four lists.
 pub record WidthsListed : Type 0 where

@@ -3,12 +3,8 @@ use Prim.Native.Nat.{ℕ, ◌<◌}
 use mathlib.Core.List.{List}
 use mathlib.Core.Path.{◌≡◌, sym, ap, subst, ◌∙◌}
 use Rattle.model.specs.Rules.Compile.{Pair}
-use Rattle.model.specs.Rules.Outcome.{Outcome, accepted, refused}
-use Rattle.model.specs.declared.Fault.{Fault}
-use Rattle.basics.specs.declared.Judged.{Judged}
 use Rattle.check_load.specs.Load.{load_in, LoadsOf}
 use Rattle.check_load.proofs.Loads.{load_is}
-use Rattle.basics.specs.Judgement.{Answers}
 use Rattle.check_pair.specs.Checked.{Checks}
 use Rattle.text_schedule.specs.declared.PairTables.{PairTables}
 use Rattle.timetable.specs.Timetable.{TimetableOf}
@@ -21,8 +17,7 @@ pub record Made (t : PairTables) (loads : List ℕ) (r : Timetable) : Type 0 whe
   pub periods : r.periods ≡ t.tables.periods
   pub phases : r.phases ≡ t.slots.phases
   pub labels : r.labels ≡ t.tables.labels
-  pub capped : r.capped ≡ t.tables.capped
-  pub limit : r.limit ≡ t.tables.limit
+  pub cap : r.cap ≡ t.tables.cap
   pub loads-are : r.loads ≡ loads
 
 pub tabled : (text reads : List ℕ) (t : PairTables) (q : Pair) (loads : List ℕ) (r : Timetable) → Checks text reads t q →
@@ -37,21 +32,10 @@ tabled text reads t q loads r k l m =
       periods = rw m.periods g.stands.tables-are.periods;
       phases = rw m.phases g.slots-are.phases-are;
       labels = rw m.labels g.stands.tables-are.labels;
-      cap = rw (m.capped, m.limit) g.stands.tables-are.cap;
+      cap = rw m.cap g.stands.tables-are.cap;
       loads = λ c lt.
           rw m.loads-are
           (l c (subst (λ (h : ℕ). c < h) (sym k.hyper) lt) ∙
           ap (λ (x : ℕ). load_in t.tables.periods t.slots.phases t.tables.weights x c) (sym n) ∙
           sym (load_is _ _ _ _ _ g.stands.tables-are.periods g.stands.tables-are.weights g.slots-are.phases-are c));
     }
-
--- The answer, accepted or refused.
-pub answers-made : (Q : Pair → Type 0) (o : Outcome Pair) (q : Pair) (j : Judged) → o ≡ accepted q → j ≡ Judged.Fine → Q q →
-    Answers Q o j
-unfolding Answers
-answers-made Q o q j e f h = rw e (f, h)
-
-pub answers-not : (Q : Pair → Type 0) (o : Outcome Pair) (f : Fault) (j : Judged) → o ≡ refused f → j ≡ Judged.Refused f →
-    Answers Q o j
-unfolding Answers
-answers-not Q o f j e h = rw e h

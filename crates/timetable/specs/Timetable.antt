@@ -13,6 +13,6 @@ pub record TimetableOf (t : Timetable) (q : Pair) : Type 0 where
   pub periods : PeriodsOf q.program t.periods
   pub phases : PhasesOf q.program q.schedule t.phases
   pub labels : LabelsOf q.program t.labels
-  pub cap : q.program.cap ≡ cap_of t.capped t.limit
+  pub cap : q.program.cap ≡ cap_of t.cap
   -- the summed weight of the signals that run in each cycle below the hypercycle
   pub loads : (c : ℕ) → c < q.hypercycle → get_or t.loads c 0 ≡ load q.program q.schedule c

@@ -3,27 +3,22 @@
 // is made by `trial_prepare` and `trial_step`; here it is read and written.
 #![tactic(auto)]
 
-ghost use Rattle.std.specs.Prelude.{◌≤◌, ◌≡◌, length, take, IfOk};
 ghost use Rattle.trial_step.specs.Underway.{at_start, Underway};
 
-use basics::Judged;
-use model::Fault;
+use model::{Fault, Refusal};
 use std::io;
-use trial_step::Progress;
 
 // Reads the file that argument i names to the start of the space; one that is missing or can't be opened counts as empty.
-fn read_file(rt: &HostRuntime, i: usize, space: &mut [u8]) -> io::Result<usize>
-    ensures { IfOk result (λ n. (n ≤ length space.new) × (n ≡ length (take n space.new))) }
-{
-    let mut name = [0u8; 4096];
-    let n = console::argument(rt, i, &mut name);
-    match console::open_read(rt, &name[..n]) {
-        Ok(file) => Ok(console::read(file, &mut space[..])),
+fn read_file<'a>(rt: &HostRuntime, i: usize, space: &'a mut [u8]) -> io::Result<&'a [u8]> {
+    let mut path = [0u8; 4096];
+    let Some(name) = console::argument(rt, i, &mut path) else {
+        return Ok(&[]);
+    };
+    match console::open_read(rt, name) {
+        Ok(file) => Ok(console::read(file, space)),
         Err(error) => {
-            if 0 < n {
-                console::say_failure(rt, &name[..n], &error)?;
-            }
-            Ok(0)
+            console::say_failure(rt, name, &error)?;
+            Ok(&[])
         }
     }
 }
@@ -36,25 +31,18 @@ fn print_refusal(
     schedule: &[u8],
     text: &[u8],
 ) -> io::Result<()> {
-    console::print_number(rt, fault.number as usize)?;
-    console::print(rt, b"\n")?;
+    println!(rt; "{}", fault.number)?;
     explain::say_refusal(rt, fault)?;
-    if fault.number < 24 {
-        explain::say_where(rt, fault, program, schedule)
-    } else if fault.number < 26 {
-        explain::say_script(rt, fault, text)
-    } else {
-        explain::say_where(rt, fault, program, schedule)
+    match Refusal::try_from(fault.number) {
+        Ok(Refusal::ScriptText | Refusal::SetOfNoInput) => explain::say_script(rt, fault, text),
+        _ => explain::say_where(rt, fault, program, schedule),
     }
 }
 
 // Says on standard error how far a long trial is, every 10,000 lines.
 fn tell(rt: &HostRuntime, before: u32, done: u32, lines: usize) -> io::Result<()> {
     if before / 10000 < done / 10000 {
-        console::say_number(rt, done as usize)?;
-        console::say(rt, b" of ")?;
-        console::say_number(rt, lines)?;
-        console::say(rt, b" lines\n")?;
+        eprintln!(rt; "{done} of {lines} lines")?;
     }
     Ok(())
 }
@@ -72,46 +60,28 @@ fn print_lines(
 {
     let mut block = [0u8; 65536];
     let mut progress = trial_step::at_start();
-    let mut ended = false;
-    while !ended {
-        let filled = trial_step::next_block(
-            image,
-            text,
-            progress,
-            &mut samples[..],
-            &mut state[..],
-            &mut block,
-        );
-        let size = filled.size;
-        console::print(rt, &block[..size])?;
-        let reached = filled.progress;
-        tell(rt, progress.line, reached.line, lines)?;
-        progress = reached;
-        ended = filled.ended;
+    loop {
+        let filled = trial_step::next_block(image, text, progress, samples, state, &mut block);
+        rt.stdout().write_all(&block[..filled.size])?;
+        tell(rt, progress.line, filled.progress.line, lines)?;
+        if filled.ended {
+            return Ok(());
+        }
+        progress = filled.progress;
     }
-    Ok(())
 }
 
 // The whole trial, from memory.
 fn run(rt: &HostRuntime, program: &[u8], schedule: &[u8], text: &[u8]) -> io::Result<()> {
     let start = trial_prepare::prepare(program, schedule, text);
-    let ready = start.ready;
-    let judged = ready.judged;
-    if let Judged::Refused(fault) = judged {
-        return print_refusal(rt, fault, program, schedule, text);
-    }
-    let image = start.image;
-    let length = start.length;
+    let ready = match start.ready {
+        Ok(ready) => ready,
+        Err(fault) => return print_refusal(rt, fault, program, schedule, text),
+    };
+    let image = &start.image[..start.length];
     let mut samples = ready.samples;
     let mut state = ready.state;
-    print_lines(
-        rt,
-        &image[..length],
-        text,
-        ready.lines,
-        &mut samples,
-        &mut state,
-    )
+    print_lines(rt, image, text, ready.lines, &mut samples, &mut state)
 }
 
 // Each file is read one byte past its bound, so that a longer one is seen.
@@ -120,10 +90,10 @@ fn main(rt: HostRuntime) -> io::Result<()> {
     let mut schedule = [0u8; 194];
     let mut text = [0u8; 2049];
     if console::argument_count(&rt) != 4 {
-        console::say(&rt, b"trial PROGRAM SCHEDULE SCRIPT\n")?;
+        eprintln!(rt; "trial PROGRAM SCHEDULE SCRIPT")?;
     }
-    let p = read_file(&rt, 1, &mut program)?;
-    let s = read_file(&rt, 2, &mut schedule)?;
-    let t = read_file(&rt, 3, &mut text)?;
-    run(&rt, &program[..p], &schedule[..s], &text[..t])
+    let program = read_file(&rt, 1, &mut program)?;
+    let schedule = read_file(&rt, 2, &mut schedule)?;
+    let text = read_file(&rt, 3, &mut text)?;
+    run(&rt, program, schedule, text)
 }

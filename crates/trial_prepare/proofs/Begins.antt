@@ -1,4 +1,5 @@
 -- From the image of an accepted pair to its trial. Assumes nothing.
+use Rattle.std.specs.Prelude.{Result, Ok, Err}
 use Prim.Native.Nat.{ℕ, ◌≤◌, ◌<◌}
 use mathlib.Core.Bool.{Bool, true}
 use mathlib.Core.List.{List, ◌++◌, append_assoc}
@@ -33,7 +34,6 @@ use Rattle.model.proofs.Images.Stretches.{image-length, image-count}
 use Rattle.model.proofs.Images.Tails.{headed, stated-length, written-bears, written-length}
 use Rattle.model.proofs.Bench.Scripts.{lines-count}
 use Rattle.model.proofs.Pairs.Verdict.{pair-accepted, pair-multiple, pair-bounded}
-use Rattle.basics.specs.declared.Judged.{Judged}
 use Rattle.machine.specs.Runnable.{Runnable}
 use Rattle.machine.proofs.Machine.{reset-done, lends-itself}
 use Rattle.machine.proofs.Runnable.{reset-runnable}
@@ -41,7 +41,7 @@ use Rattle.trial_script.specs.Inputs.{fetches}
 use Rattle.trial_script.proofs.Marks.{fetches-are}
 use Rattle.trial_step.specs.Underway.{lines_left, at_start, Underway}
 use Rattle.trial_step.proofs.Left.{left-all, left-count}
-use Rattle.trial_prepare.specs.Prepares.{not_ready, Started, Prepares, Begun, PreparesOn}
+use Rattle.trial_prepare.specs.Prepares.{Started, Prepares, Begun, PreparesOn}
 use Rattle.trial_prepare.specs.declared.Prepared.{Prepared}
 use Rattle.trial_prepare.specs.declared.Start.{Start}
 
@@ -208,10 +208,10 @@ module _ (program schedule text : List ℕ) (r : Start) (c : Compiles program sc
   few : count_of image ≤ 64
   few = rw (image-count c.pair.program c.pair.schedule c.pair.hypercycle) c.bounded.signals
 
-  started : Begun (take r.length r.image) text r.ready → Started program schedule text r
+  started : (p : Prepared) → Begun (take r.length r.image) text p → Started program schedule text r p
   unfolding trial_of
-  started b =
-      let on : Begun image text r.ready = rw c.here at b in
+  started p b =
+      let on : Begun image text p = rw c.here at b in
       record {
         samples-are = on.samples-are;
         state-is = rw c.here on.state-is;
@@ -219,22 +219,22 @@ module _ (program schedule text : List ℕ) (r : Start) (c : Compiles program sc
         lines_are =
             rw c.here
             (accepted-then _ _ _ c.accepts ∙ accepted-then _ _ _ (sym inputs_are ∙ on.checked) ∙
-            ap accepted (sym (all_left image text r.ready c.formed few on)));
-        count = rw c.here (begun-count image text r.ready c.formed few on);
-        underway = rw c.here (begun-underway image text r.ready c.formed few on);
+            ap accepted (sym (all_left image text p c.formed few on)));
+        count = rw c.here (begun-count image text p c.formed few on);
+        underway = rw c.here (begun-underway image text p c.formed few on);
       }
 
-  unstarted : (f : Fault) → (check_of (fetches (take r.length r.image)) text ≡ refused f) × (r.ready ≡ not_ready f) →
-      (trial_of program schedule text ≡ refused f) × (r.ready ≡ not_ready f)
+  unstarted : (f : Fault) → check_of (fetches (take r.length r.image)) text ≡ refused f →
+      trial_of program schedule text ≡ refused f
   unfolding trial_of
-  unstarted f (e, none) =
-      (accepted-then _ _ _ c.accepts ∙ refused-then _ _ _ (sym inputs_are ∙ (rw c.here at e)), none)
+  unstarted f e = accepted-then _ _ _ c.accepts ∙ refused-then _ _ _ (sym inputs_are ∙ (rw c.here at e))
 
   -- What is prepared on the image is prepared for the pair.
-  pub prepared : (j : Judged) → PreparesOn (take r.length r.image) text r.ready j → Prepares program schedule text r j
+  pub prepared : (ready : Result Prepared Fault) → PreparesOn (take r.length r.image) text ready →
+      Prepares program schedule text r ready
   unfolding PreparesOn Prepares
-  prepared Judged.Fine b = started b
-  prepared (Judged.Refused f) e = unstarted f e
+  prepared (Ok p) b = started p b
+  prepared (Err f) e = unstarted f e
 
 pub uncompiled : (program schedule text : List ℕ) (f : Fault) → pair_of program schedule ≡ refused f →
     trial_of program schedule text ≡ refused f
@@ -248,8 +248,7 @@ checked-short is_input text e =
     leb-true (length text) 2048 (provided-true _ 24 0 (then-accepted _ _ tt e).1)
 
 -- A start that is fine.
-pub is-started : (program schedule text : List ℕ) (r : Start) {j : Judged} → j ≡ Judged.Fine →
-    Prepares program schedule text r j →
-    Started program schedule text r
+pub is-started : (program schedule text : List ℕ) (r : Start) {p : Prepared} {ready : Result Prepared Fault} → ready ≡ Ok p →
+    Prepares program schedule text r ready → Started program schedule text r p
 unfolding Prepares
-is-started program schedule text r e s = subst (λ (j : Judged). Prepares program schedule text r j) e s
+is-started program schedule text r e s = subst (λ (j : Result Prepared Fault). Prepares program schedule text r j) e s

@@ -11,11 +11,12 @@ use Rattle.model.proofs.Basics.Outcomes.{accepted-same}
 use Rattle.trial_step.specs.Underway.{at_start}
 use Rattle.trial_step.proofs.Filling.{Blocks, blocks-hold}
 use Rattle.trial_prepare.specs.Prepares.{Started}
+use Rattle.trial_prepare.specs.declared.Prepared.{Prepared}
 use Rattle.trial_prepare.specs.declared.Start.{Start}
 
-pub trial-printed : (program schedule text : List ℕ) (r : Start) (lines : List (List ℕ)) (out : List ℕ) →
-    Started program schedule text r →
+pub trial-printed : (program schedule text : List ℕ) (r : Start) (p : Prepared) (lines : List (List ℕ)) (out : List ℕ) →
+    Started program schedule text r p →
     trial_of program schedule text ≡ accepted lines →
-    Blocks (take r.length r.image) text at_start r.ready.samples r.ready.state out → out ≡ joined lines
-trial-printed program schedule text r lines out s e b =
+    Blocks (take r.length r.image) text at_start p.samples p.state out → out ≡ joined lines
+trial-printed program schedule text r p lines out s e b =
     blocks-hold b ∙ ap joined (accepted-same _ _ (sym s.lines_are ∙ e))

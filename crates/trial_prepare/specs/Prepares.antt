@@ -1,13 +1,11 @@
 -- What the start of a trial answers: `trial_of`'s refusal, or a trial under way whose lines left are `trial_of`'s.
-use Rattle.std.specs.Prelude.{ℕ, ◌≤◌, List, ◌≡◌, pos, length, take, replicate}
+use Rattle.std.specs.Prelude.{Result, Ok, Err, ℕ, ◌≤◌, List, ◌≡◌, length, take, replicate}
 use Rattle.model.specs.Rules.Compile.{compile_of}
 use Rattle.model.specs.Rules.Machine.{Effect, stated_length}
 use Rattle.model.specs.Rules.Outcome.{Outcome, accepted, refused}
 use Rattle.model.specs.Rules.Script.{no_samples, script_of, check_of, cycles_of}
 use Rattle.model.specs.Rules.Trial.{start_of, trial_of}
 use Rattle.model.specs.declared.Fault.{Fault}
-use Rattle.basics.specs.declared.Judged.{Judged}
-use Rattle.basics.specs.declared.Judged.TheVariants as Judged
 use Rattle.trial_script.specs.Inputs.{fetches}
 use Rattle.trial_step.specs.Underway.{lines_left, at_start, Underway}
 use Rattle.trial_prepare.specs.declared.Prepared.{Prepared}
@@ -29,25 +27,21 @@ pub record HoldsImage (program schedule : List ℕ) (r : Start) : Type 0 where
   pub image-is : r.image ≡ (compile_of program schedule no_image).left
   pub length-is : r.length ≡ length_after (compile_of program schedule no_image)
 
--- Nothing is prepared where the trial is refused.
-abbrev pub not_ready : Fault → Prepared
-not_ready f = record { judged = Judged.Refused f; lines = 0; samples = no_samples; state = replicate 65 (pos 0) }
-
 -- A trial that is accepted: it is under way, and the lines left are its lines.
-pub record Started (program schedule text : List ℕ) (r : Start) : Type 0 where
-  pub samples-are : r.ready.samples ≡ no_samples
-  pub state-is : r.ready.state ≡ start_of (take r.length r.image)
+pub record Started (program schedule text : List ℕ) (r : Start) (p : Prepared) : Type 0 where
+  pub samples-are : p.samples ≡ no_samples
+  pub state-is : p.state ≡ start_of (take r.length r.image)
   pub fits : r.length ≤ length r.image
   pub lines_are : trial_of program schedule text ≡
-      accepted (lines_left (take r.length r.image) text at_start r.ready.samples r.ready.state)
-  pub count : r.ready.lines ≡
-      length (lines_left (take r.length r.image) text at_start r.ready.samples r.ready.state)
-  pub underway : Underway (take r.length r.image) text at_start r.ready.samples r.ready.state
+      accepted (lines_left (take r.length r.image) text at_start p.samples p.state)
+  pub count : p.lines ≡
+      length (lines_left (take r.length r.image) text at_start p.samples p.state)
+  pub underway : Underway (take r.length r.image) text at_start p.samples p.state
 
 -- The contract of `prepare`.
-unfoldable pub Prepares : List ℕ → List ℕ → List ℕ → Start → Judged → Type 0
-Prepares program schedule text r Judged.Fine = Started program schedule text r
-Prepares program schedule text r (Judged.Refused f) = (trial_of program schedule text ≡ refused f) × (r.ready ≡ not_ready f)
+unfoldable pub Prepares : List ℕ → List ℕ → List ℕ → Start → Result Prepared Fault → Type 0
+Prepares program schedule text r (Ok p) = Started program schedule text r p
+Prepares program schedule text r (Err f) = trial_of program schedule text ≡ refused f
 
 -- The same on an image.
 pub record Begun (image text : List ℕ) (r : Prepared) : Type 0 where
@@ -57,6 +51,6 @@ pub record Begun (image text : List ℕ) (r : Prepared) : Type 0 where
   pub samples-are : r.samples ≡ no_samples
   pub state-is : r.state ≡ start_of image
 
-unfoldable pub PreparesOn : List ℕ → List ℕ → Prepared → Judged → Type 0
-PreparesOn image text r Judged.Fine = Begun image text r
-PreparesOn image text r (Judged.Refused f) = (check_of (fetches image) text ≡ refused f) × (r ≡ not_ready f)
+unfoldable pub PreparesOn : List ℕ → List ℕ → Result Prepared Fault → Type 0
+PreparesOn image text (Ok r) = Begun image text r
+PreparesOn image text (Err f) = check_of (fetches image) text ≡ refused f

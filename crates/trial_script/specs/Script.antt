@@ -1,16 +1,14 @@
 -- One command of a script as the code goes over it, and what the answers stand for.
-use Rattle.std.specs.Prelude.{ℕ, ◌+◌, Bool, true, List, leb, ℤ, length, set}
+use Rattle.std.specs.Prelude.{Result, Ok, Err, ℕ, ◌+◌, Bool, true, List, leb, ℤ, length, set}
 use Rattle.model.specs.Rules.Outcome.{Outcome, accepted, refused, refuse, provided}
 use Rattle.model.specs.Rules.Width.{in_script}
 use Rattle.model.specs.declared.ScriptCommand.{ScriptCommand}
-use Rattle.model.specs.declared.ScriptCommand.TheVariants as ScriptCommand
-use Rattle.basics.specs.declared.Judged.{Judged}
-use Rattle.basics.specs.declared.Judged.TheVariants as Judged
+use Rattle.model.specs.declared.Fault.{Fault}
 
 -- What a judgement stands for.
-abbrev pub ruled_of : Judged → Outcome (Unit {0})
-ruled_of Judged.Fine = accepted tt
-ruled_of (Judged.Refused f) = refused f
+abbrev pub ruled_of : Result (Unit {0}) Fault → Outcome (Unit {0})
+ruled_of (Ok tt) = accepted tt
+ruled_of (Err f) = refused f
 
 -- The bytes of a SET or RUN; 0 where the script goes no further.
 unfoldable pub action_width : ScriptCommand → ℕ

@@ -7,8 +7,7 @@ ghost use Rattle.model.specs.Rules.Script.{script_command_at, script_of, inputs_
 ghost use Rattle.trial_script.specs.Inputs.{fetches, mark_of, marked};
 ghost use Rattle.trial_script.specs.Script.{ruled_of, action_width, cycles_made, ending_at, may_stand};
 
-use basics::Judged;
-use model::{ScriptCommand, refusals};
+use model::{Fault, Refusal, ScriptCommand};
 
 // The command at an offset.
 pub fn script_command_at(text: &[u8], at: usize) -> ScriptCommand
@@ -38,56 +37,57 @@ pub fn script_command_at(text: &[u8], at: usize) -> ScriptCommand
 }
 
 // The bytes of a SET or RUN; 0 where the script goes no further.
+#[tactic(auto, unfolding(crate::specs::Script::action_width))]
 pub fn action_width(command: ScriptCommand) -> usize
     ensures { result ≡ action_width command }
 {
     match command {
-        ScriptCommand::EndsEarly => 0,
-        ScriptCommand::Unknown => 0,
-        ScriptCommand::End => 0,
+        ScriptCommand::EndsEarly | ScriptCommand::Unknown | ScriptCommand::End => 0,
         ScriptCommand::Set(_, _) => width::in_script(0x70),
         ScriptCommand::Run(_) => width::in_script(0x71),
     }
 }
 
 // The cycles that a command makes.
+#[tactic(auto, unfolding(crate::specs::Script::cycles_made))]
 pub fn cycles_made(command: ScriptCommand) -> u8
     ensures { result ≡ cycles_made command }
 {
     match command {
-        ScriptCommand::EndsEarly => 0,
-        ScriptCommand::Unknown => 0,
-        ScriptCommand::End => 0,
-        ScriptCommand::Set(_, _) => 0,
+        ScriptCommand::EndsEarly
+        | ScriptCommand::Unknown
+        | ScriptCommand::End
+        | ScriptCommand::Set(_, _) => 0,
         ScriptCommand::Run(n) => n,
     }
 }
 
 // The answer at a command that ends the script (24).
-fn ending_at(text: &[u8], at: usize, command: ScriptCommand) -> Judged
+#[tactic(auto, unfolding(crate::specs::Script::ending_at))]
+fn ending_at(text: &[u8], at: usize, command: ScriptCommand) -> Result<(), Fault>
     requires { at < length text.now }
     ensures { ruled_of result ≡ ending_at text.now at command }
 {
     match command {
-        ScriptCommand::EndsEarly => basics::refuse(refusals::SCRIPT_TEXT, text.len()),
-        ScriptCommand::Unknown => basics::refuse(refusals::SCRIPT_TEXT, at),
+        ScriptCommand::EndsEarly => basics::refuse(Refusal::ScriptText, text.len()),
+        ScriptCommand::Unknown => basics::refuse(Refusal::ScriptText, at),
         ScriptCommand::End => {
             let next = at + width::in_script(0x00);
             if next < text.len() {
-                return basics::refuse(refusals::SCRIPT_TEXT, next);
+                return basics::refuse(Refusal::ScriptText, next);
             }
-            Judged::Fine
+            Ok(())
         }
-        ScriptCommand::Set(_, _) => Judged::Fine,
-        ScriptCommand::Run(_) => Judged::Fine,
+        ScriptCommand::Set(_, _) | ScriptCommand::Run(_) => Ok(()),
     }
 }
 
 // Reads a script to its end (24).
-fn read_script(text: &[u8]) -> Judged
+fn read_script(text: &[u8]) -> Result<(), Fault>
     ensures { ruled_of result ≡ (script_of text.now).ending }
 {
     let mut at: usize = 0;
+    // A `while`: where the next command stands depends on this one.
     while at < text.len() {
         let command = script_command_at(text, at);
         let width = action_width(command);
@@ -96,7 +96,7 @@ fn read_script(text: &[u8]) -> Judged
         }
         at = at + width;
     }
-    basics::refuse(refusals::SCRIPT_TEXT, text.len())
+    basics::refuse(Refusal::ScriptText, text.len())
 }
 
 // Whether a signal is an input: its code starts with FETCH.
@@ -117,7 +117,7 @@ fn mark_of(image: &[u8], x: u8) -> u8
     requires { well_formed image.now ≡ true }
     ensures { result ≡ mark_of (fetches image.now x) }
 {
-    if is_input(image, x) { 1 } else { 0 }
+    u8::from(is_input(image, x))
 }
 
 // Marks the inputs.
@@ -126,16 +126,15 @@ pub fn mark_inputs(image: &[u8]) -> [u8; 256]
     ensures { (x : ℕ) → marked result x ≡ fetches image.now x }
 {
     let mut inputs: [u8; 256] = [0; 256];
-    let mut x: u8 = 0;
     let n = image[1];
-    while x < n {
+    for x in 0..n {
         let mark = mark_of(image, x);
         inputs[basics::from_byte(x)] = mark;
-        x = x + 1;
     }
     inputs
 }
 
+#[tactic(auto, unfolding(crate::specs::Inputs::marked))]
 fn is_marked(inputs: &[u8; 256], x: u8) -> bool
     ensures { result ≡ marked inputs.now x }
 {
@@ -143,48 +142,47 @@ fn is_marked(inputs: &[u8; 256], x: u8) -> bool
 }
 
 // Whether a command may stand: a SET only of an input.
+#[tactic(auto, unfolding(crate::specs::Script::may_stand))]
 fn may_stand(inputs: &[u8; 256], command: ScriptCommand) -> bool
     ensures { result ≡ may_stand (marked inputs.now) command }
 {
     match command {
-        ScriptCommand::EndsEarly => true,
-        ScriptCommand::Unknown => true,
-        ScriptCommand::End => true,
+        ScriptCommand::EndsEarly
+        | ScriptCommand::Unknown
+        | ScriptCommand::End
+        | ScriptCommand::Run(_) => true,
         ScriptCommand::Set(x, _) => is_marked(inputs, x),
-        ScriptCommand::Run(_) => true,
     }
 }
 
 // The first SET of a signal that is no input (25).
-fn check_sets(text: &[u8], inputs: &[u8; 256]) -> Judged
+fn check_sets(text: &[u8], inputs: &[u8; 256]) -> Result<(), Fault>
     ensures { ruled_of result ≡ inputs_only (marked inputs.now) (script_of text.now).actions }
 {
     let mut at: usize = 0;
+    // A `while`: where the next command stands depends on this one.
     while at < text.len() {
         let command = script_command_at(text, at);
         let width = action_width(command);
         if width == 0 {
-            return Judged::Fine;
+            return Ok(());
         }
         if !may_stand(inputs, command) {
-            return basics::refuse(refusals::SET_OF_NO_INPUT, at);
+            return basics::refuse(Refusal::SetOfNoInput, at);
         }
         at = at + width;
     }
-    Judged::Fine
+    Ok(())
 }
 
 // Checks a whole script, where the inputs are marked (24, 25).
-pub fn check_script(text: &[u8], inputs: &[u8; 256]) -> Judged
+pub fn check_script(text: &[u8], inputs: &[u8; 256]) -> Result<(), Fault>
     ensures { ruled_of result ≡ check_of (marked inputs.now) text.now }
 {
     if 2048 < text.len() {
-        return basics::refuse(refusals::SCRIPT_TEXT, 0);
+        return basics::refuse(Refusal::ScriptText, 0);
     }
-    let read = read_script(text);
-    let Judged::Fine = read else {
-        return read;
-    };
+    read_script(text)?;
     check_sets(text, inputs)
 }
 
@@ -195,6 +193,7 @@ pub fn count_cycles(text: &[u8]) -> usize
 {
     let mut at: usize = 0;
     let mut total: usize = 0;
+    // A `while`: where the next command stands depends on this one.
     while at < text.len() {
         let command = script_command_at(text, at);
         let width = action_width(command);

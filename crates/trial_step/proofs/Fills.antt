@@ -1,4 +1,5 @@
 -- A block that is filled step by step. Assumes nothing.
+use Rattle.std.specs.Prelude.{Some, None}
 use Prim.Native.Nat.{ℕ, zero, suc, ◌+◌, ◌-◌, ◌≤◌, ◌<◌}
 use mathlib.Core.Bool.{Bool, true, false}
 use mathlib.Core.List.{List, ◌++◌}
@@ -11,9 +12,9 @@ use Rattle.model.specs.Rules.Decimal.{line_of}
 use Rattle.model.specs.Rules.Machine.{cycle_words}
 use Rattle.model.specs.Rules.Trial.{signals_of}
 use Rattle.trial_step.specs.Underway.{next_cycle, step_to, Step, step_of, Stepped, Fill, fill_to, fill_next, fill_from}
-use Rattle.trial_step.specs.declared.Next.{Next}
+use Rattle.trial_step.specs.Underway.{Next}
 use Rattle.trial_step.specs.declared.Progress.{Progress}
-use Rattle.trial_step.specs.declared.Sought.{Sought}
+use Rattle.trial_step.specs.Underway.{Sought}
 
 -- A line has a byte at least.
 line-some : (j : ℕ) (words : List ℤ) → 0 < length (line_of j words)
@@ -22,19 +23,21 @@ line-some j words = simp length-append (omega arith)
 
 module _ (image text : List ℕ) (p : Progress) (samples state : List ℤ) (line : List ℕ) where
   pub step-some : {samples' state' : List ℤ} {line' : List ℕ} {k : ℕ} {q : Progress} →
-      Stepped (step_of image text p samples state line) samples' state' line' (Next.Line k q) → 0 < k
+      Stepped (step_of image text p samples state line) samples' state' line' (Some (k, q)) → 0 < k
   unfolding step_of
   step-some {k = k} {q = q} s =
       let n = next_cycle text p samples in go n.sought n.samples s.next-is
     where
-      go : (r : Sought) (kept : List ℤ) → Next.Line k q ≡ (step_to image p state line (record { sought = r; samples = kept })
+      go : (r : Sought) (kept : List ℤ) → Some (k, q) ≡ (step_to image p state line (record { sought = r; samples = kept })
           ).next →
           0 < k
-      go (Sought.Cycle at left) kept e =
+      go (Some (at, left)) kept e =
           let after = cycle_words image state kept in
-          let same : k ≡ length (line_of p.line (signals_of image after)) = cc in
+          let both : ◌≡◌ {A = ℕ × Progress} (k, q)
+          (length (line_of p.line (signals_of image after)), record { at = at; left = left; line = p.line + 1 }) = cc in
+          let same : k ≡ length (line_of p.line (signals_of image after)) = ap (λ (x : ℕ × Progress). x.0) both in
           omega (arith, line-some p.line (signals_of image after))
-      go Sought.Nothing kept e = let z : ◌≡◌ {A = ℕ} 0 1 = cc in absurd (omega arith)
+      go None kept e = let z : ◌≡◌ {A = ℕ} 0 1 = cc in absurd (omega arith)
 
 module _ (image text : List ℕ) (p : Progress) (samples state : List ℤ) (block : List ℕ) (size : ℕ) where
   abbrev step : Step
@@ -53,7 +56,7 @@ module _ (image text : List ℕ) (p : Progress) (samples state : List ℤ) (bloc
 
   -- One line more.
   pub fill-line : {samples' state' : List ℤ} {line' : List ℕ} {k : ℕ} {q : Progress} (n : ℕ) → length block < n + size →
-      size ≤ length block → 1024 ≤ length block - size → At samples' state' line' (Next.Line k q) →
+      size ≤ length block → 1024 ≤ length block - size → At samples' state' line' (Some (k, q)) →
       (m : ℕ) × (length block < m + (size + k)) ×
       (fill_from n image text p samples state block size ≡
       fill_from m image text q samples' state' (take size block ++ line') (size + k))
@@ -69,7 +72,7 @@ module _ (image text : List ℕ) (p : Progress) (samples state : List ℤ) (bloc
 
   -- None is left.
   pub fill-ended : {samples' state' : List ℤ} {line' : List ℕ} (n : ℕ) → length block < n + size → size ≤ length block →
-      1024 ≤ length block - size → At samples' state' line' Next.Ended →
+      1024 ≤ length block - size → At samples' state' line' None →
       fill_from n image text p samples state block size ≡ fill_to p size true samples' state' (take size block ++ line')
   unfolding fill_from fill_next
   fill-ended zero enough fits room s = absurd (omega arith)

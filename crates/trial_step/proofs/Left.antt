@@ -1,4 +1,5 @@
 -- What is left of a trial, before and after a line. Assumes nothing.
+use Rattle.std.specs.Prelude.{Some, None}
 use Prim.Native.Nat.{ℕ, zero, suc, ◌+◌, ◌-◌, ◌≤◌, ◌<◌}
 use mathlib.Core.List.{List, [], ◌∷◌, ◌++◌}
 use mathlib.Core.Path.{◌≡◌, refl, sym, ap, ap₂, subst, ◌∙◌}
@@ -19,7 +20,7 @@ use Rattle.machine.proofs.Runnable.{cycle-leaves}
 use Rattle.trial_script.specs.Script.{action_width, cycles_made, altered}
 use Rattle.trial_script.proofs.Walk.{calls-more}
 use Rattle.trial_step.specs.Underway.{calls_left, lines_left, at_start, Underway, Printed, Lined, StepsOn}
-use Rattle.trial_step.specs.declared.Next.{Next}
+use Rattle.trial_step.specs.Underway.{Next}
 use Rattle.trial_step.specs.declared.Progress.{Progress}
 
 -- The calls left: within a RUN, and at its end.
@@ -85,14 +86,14 @@ none_left image text p samples state e = ap (lines_from image p.line state) e
 
 -- What a step that prints a line has done.
 pub is-lined : {image text : List ℕ} {p : Progress} {samples state samples' state' : List ℤ} {line' : List ℕ} {r : Next}
-    (size : ℕ) (next : Progress) → r ≡ Next.Line size next → StepsOn image text p samples state samples' state' line' r →
-    Lined image text p samples state samples' state' line' size next
+    (size : ℕ) (after : Progress) → r ≡ Some (size, after) → StepsOn image text p samples state samples' state' line' r →
+    Lined image text p samples state samples' state' line' size after
 unfolding StepsOn
-is-lined {image} {text} {p} {samples} {state} {samples'} {state'} {line'} size next e s =
+is-lined {image} {text} {p} {samples} {state} {samples'} {state'} {line'} size after e s =
     subst (λ (r : Next). StepsOn image text p samples state samples' state' line' r) e s
 
 pub is-ended : (image text : List ℕ) (p : Progress) (samples state samples' state' : List ℤ) (line' : List ℕ) {r : Next} →
-    r ≡ Next.Ended → StepsOn image text p samples state samples' state' line' r → lines_left image text p samples state ≡ []
+    r ≡ None → StepsOn image text p samples state samples' state' line' r → lines_left image text p samples state ≡ []
 unfolding StepsOn
 is-ended image text p samples state samples' state' line' e s =
     subst (λ (r : Next). StepsOn image text p samples state samples' state' line' r) e s

@@ -1,4 +1,5 @@
 -- Where the next cycle is, command by command, and what a step leaves. Assumes nothing.
+use Rattle.std.specs.Prelude.{Some, None}
 use Prim.Native.Nat.{ℕ, zero, suc, ◌+◌, ◌-◌, ◌≤◌, ◌<◌}
 use mathlib.Core.List.{List}
 use mathlib.Core.Path.{◌≡◌, refl, sym, ap, ◌∙◌}
@@ -26,9 +27,8 @@ use Rattle.trial_step.specs.Underway.{
   Stepped,
   Printed,
 }
-use Rattle.trial_step.specs.declared.Next.TheVariants as Next
 use Rattle.trial_step.specs.declared.Progress.{Progress}
-use Rattle.trial_step.specs.declared.Sought.{Sought}
+use Rattle.trial_step.specs.Underway.{Sought}
 
 -- One command: none, or one that ends the script; a RUN that makes a cycle; another.
 module _ (go : ℕ → List ℤ → Seeking) (at : ℕ) (samples : List ℤ) where
@@ -115,7 +115,7 @@ module _ (image text : List ℕ) (p : Progress) (samples state : List ℤ) (line
   pub stepped-cycle : {samples' state' : List ℤ} {line' : List ℕ} {size : ℕ} (at left : ℕ) →
       next_cycle text p samples ≡ cycle_sought at left samples' → Printed image p.line samples' state line state' line' size →
       Stepped (step_of image text p samples state line) samples' state' line'
-      (Next.Line size (record { at = at; left = left; line = p.line + 1 }))
+      (Some (size, record { at = at; left = left; line = p.line + 1 }))
   unfolding step_of
   stepped-cycle {samples'} {state'} {line'} {size} at left e ran =
       let bytes = line_of p.line (signals_of image (cycle_words image state samples')) in
@@ -124,13 +124,13 @@ module _ (image text : List ℕ) (p : Progress) (samples state : List ℤ) (line
       let long : size ≡ length bytes = omega (arith, ran.line-is.ends, ap length same) in
       rw e
       (record {
-        next-is = ap (λ n. Next.Line n (record { at = at; left = left; line = p.line + 1 })) long;
+        next-is = ap (λ n. Some (n, record { at = at; left = left; line = p.line + 1 })) long;
         samples-is = refl;
         state-is = ran.state-is;
         line-is = ran.line-is.holds ∙ ap (sets line 0) same;
       })
 
   pub stepped-none : {samples' : List ℤ} → next_cycle text p samples ≡ nothing_sought samples' →
-      Stepped (step_of image text p samples state line) samples' state line Next.Ended
+      Stepped (step_of image text p samples state line) samples' state line None
   unfolding step_of
   stepped-none e = rw e (record { next-is = refl; samples-is = refl; state-is = refl; line-is = refl })

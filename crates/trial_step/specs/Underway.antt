@@ -1,5 +1,5 @@
 -- A trial under way: what is still to be printed, and what a step takes of it.
-use Rattle.std.specs.Prelude.{ℕ, zero, suc, ◌+◌, ◌-◌, ◌≤◌, ◌<◌, ◌^◌, Bool, false, true, cond, List, [], ◌∷◌, ◌++◌, ◌≡◌, leb, ltb, ℤ, length, take, drop, set, replicate}
+use Rattle.std.specs.Prelude.{Option, Some, None, ℕ, zero, suc, ◌+◌, ◌-◌, ◌≤◌, ◌<◌, ◌^◌, Bool, false, true, cond, List, [], ◌∷◌, ◌++◌, ◌≡◌, leb, ltb, ℤ, length, take, drop, set, replicate}
 use Rattle.std.proofs.lemmas.List.Edits.{sets}
 use Rattle.model.specs.Says.Calls.{Call, cycle}
 use Rattle.model.specs.Rules.Decimal.{line_of}
@@ -9,15 +9,18 @@ use Rattle.model.specs.Rules.Script.{script_command_at, script_at, calls_from}
 use Rattle.model.specs.Rules.Trial.{signals_of, lines_from}
 use Rattle.model.specs.Rules.Width.{in_script}
 use Rattle.model.specs.declared.ScriptCommand.{ScriptCommand}
-use Rattle.model.specs.declared.ScriptCommand.TheVariants as ScriptCommand
 use Rattle.machine.specs.Runnable.{Runnable}
 use Rattle.decimal.specs.PutBytes.{PutBytes}
 use Rattle.trial_step.specs.declared.Block.{Block}
-use Rattle.trial_step.specs.declared.Next.{Next}
-use Rattle.trial_step.specs.declared.Next.TheVariants as Next
 use Rattle.trial_step.specs.declared.Progress.{Progress}
-use Rattle.trial_step.specs.declared.Sought.{Sought}
-use Rattle.trial_step.specs.declared.Sought.TheVariants as Sought
+
+-- Where the script goes on after the RUN that makes the next cycle, and how many more that RUN makes; none is left.
+abbrev pub Sought : Type 0
+Sought = Option (ℕ × ℕ)
+
+-- The length of the line written and the progress after it; none at the end of the script.
+abbrev pub Next : Type 0
+Next = Option (ℕ × Progress)
 
 -- The calls that a script still makes: the rest of the present RUN, and what follows it.
 unfoldable pub calls_left : List ℕ → ℕ → ℕ → List ℤ → List Call
@@ -43,10 +46,10 @@ pub record Seeking : Type 0 where
   pub samples : List ℤ
 
 abbrev pub nothing_sought : List ℤ → Seeking
-nothing_sought samples = record { sought = Sought.Nothing; samples = samples }
+nothing_sought samples = record { sought = None; samples = samples }
 
 abbrev pub cycle_sought : ℕ → ℕ → List ℤ → Seeking
-cycle_sought at left samples = record { sought = Sought.Cycle at left; samples = samples }
+cycle_sought at left samples = record { sought = Some (at, left); samples = samples }
 
 -- One command at `at`; `go` seeks on.
 unfoldable pub seek_by : (ℕ → List ℤ → Seeking) → ℕ → List ℤ → ScriptCommand → Seeking
@@ -81,16 +84,16 @@ abbrev pub step_to : List ℕ → Progress → List ℤ → List ℕ → Seeking
 step_to image p state line seeking = step_with seeking.sought seeking.samples
   where
     step_with : Sought → List ℤ → Step
-    step_with (Sought.Cycle at left) samples =
+    step_with (Some (at, left)) samples =
         let after = cycle_words image state samples in
         let bytes = line_of p.line (signals_of image after) in
         record {
-          next = Next.Line (length bytes) (record { at = at; left = left; line = p.line + 1 });
+          next = Some (length bytes, record { at = at; left = left; line = p.line + 1 });
           samples = samples;
           state = after;
           line = sets line 0 bytes;
         }
-    step_with Sought.Nothing samples = record { next = Next.Ended; samples = samples; state = state; line = line }
+    step_with None samples = record { next = None; samples = samples; state = state; line = line }
 
 unfoldable pub step_of : List ℕ → List ℕ → Progress → List ℤ → List ℤ → List ℕ → Step
 step_of image text p samples state line = step_to image p state line (next_cycle text p samples)
@@ -116,9 +119,9 @@ fill_to p size ended samples state block =
 
 -- After a step from `size` on; `go` fills on.
 unfoldable pub fill_next : (Progress → List ℤ → List ℤ → List ℕ → ℕ → Fill) → Progress → List ℕ → ℕ → Step → Next → Fill
-fill_next go p block size step (Next.Line n next) =
+fill_next go p block size step (Some (n, next)) =
     go next step.samples step.state (take size block ++ step.line) (size + n)
-fill_next go p block size step Next.Ended =
+fill_next go p block size step None =
     fill_to p size true step.samples step.state (take size block ++ step.line)
 
 -- A line takes a byte at least, so that as many as the block has bytes are enough.
@@ -143,8 +146,8 @@ pub record FilledTo (fill : Fill) (samples' state' : List ℤ) (block' : List �
 
 -- The calls from where the next cycle was sought.
 abbrev pub sought_calls : List ℕ → List ℤ → Sought → List Call
-sought_calls text samples (Sought.Cycle at left) = cycle samples ∷ calls_left text at left samples
-sought_calls text samples Sought.Nothing = []
+sought_calls text samples (Some (at, left)) = cycle samples ∷ calls_left text at left samples
+sought_calls text samples None = []
 
 -- A cycle has run, and the line of the state that it left stands at the start of the buffer.
 pub record Printed (image : List ℕ) (number : ℕ) (samples state : List ℤ) (line : List ℕ) (state' : List ℤ) (line' : List ℕ)
@@ -163,9 +166,9 @@ pub record Lined (image text : List ℕ) (p : Progress) (samples state : List �
 
 -- What a step does: it prints a line, or none is left.
 unfoldable pub StepsOn : List ℕ → List ℕ → Progress → List ℤ → List ℤ → List ℤ → List ℤ → List ℕ → Next → Type 0
-StepsOn image text p samples state samples' state' line' (Next.Line size next) =
+StepsOn image text p samples state samples' state' line' (Some (size, next)) =
     Lined image text p samples state samples' state' line' size next
-StepsOn image text p samples state samples' state' line' Next.Ended = lines_left image text p samples state ≡ []
+StepsOn image text p samples state samples' state' line' None = lines_left image text p samples state ≡ []
 
 -- A block holds the first of what is left: some lines, or all that are left.
 pub record Filled (image text : List ℕ) (p : Progress) (samples state : List ℤ) (samples' state' : List ℤ) (block' : List ℕ)

@@ -29,21 +29,8 @@ pub struct Progress {
     pub line: u32,
 }
 
-// Where the script goes on after the RUN that makes the next cycle, and how many more that RUN makes; or no cycle is left.
-#[derive(Clone, Copy)]
-pub enum Sought {
-    Cycle(usize, u8),
-    Nothing,
-}
-
-// The length of the line written and the progress after it, or the end of the script.
-#[derive(Clone, Copy)]
-pub enum Next {
-    Line(usize, Progress),
-    Ended,
-}
-
-// How many bytes of a block are lines, the progress after them, and whether the script has ended.
+// How many bytes of a block are lines, the progress after them, and whether the script has ended: size and progress hold
+// in both cases, so `ended` is no flag of a value.
 #[derive(Clone, Copy)]
 pub struct Block {
     pub size: usize,
@@ -76,40 +63,39 @@ fn store(samples: &mut [i32], signal: u8, word: i32)
 }
 
 // What a command does to the samples.
+#[tactic(auto, unfolding(trial_script::specs::Script::altered))]
 fn alter(samples: &mut [i32], command: ScriptCommand)
     ensures { samples.new ≡ altered samples.old command }
 {
-    match command {
-        ScriptCommand::EndsEarly => {}
-        ScriptCommand::Unknown => {}
-        ScriptCommand::End => {}
-        ScriptCommand::Set(x, w) => store(&mut samples[..], x, w),
-        ScriptCommand::Run(_) => {}
+    if let ScriptCommand::Set(x, w) = command {
+        store(&mut samples[..], x, w);
     }
 }
 
-// Goes on from an offset to the next cycle: SETs on the way alter the samples.
-fn seek(text: &[u8], from: usize, samples: &mut [i32]) -> Sought
+// Goes on from an offset to the next cycle: SETs on the way alter the samples. Where the script goes on after the RUN that
+// makes the cycle, and how many more that RUN makes; none if no cycle is left.
+fn seek(text: &[u8], from: usize, samples: &mut [i32]) -> Option<(usize, u8)>
     ensures calls { calls_from samples.old (script_at text.now from).actions ≡
         sought_calls text.now samples.new result }
     ensures found { result ≡ (seek_of text.now from samples.old).sought }
     ensures left { samples.new ≡ (seek_of text.now from samples.old).samples }
 {
     let mut at = from;
+    // A `while`: where the next command stands depends on this one.
     while at < text.len() {
         let command = trial_script::script_command_at(text, at);
         let width = trial_script::action_width(command);
         if width == 0 {
-            return Sought::Nothing;
+            return None;
         }
         alter(&mut samples[..], command);
         at = at + width;
         let runs = trial_script::cycles_made(command);
         if 0 < runs {
-            return Sought::Cycle(at, runs - 1);
+            return Some((at, runs - 1));
         }
     }
-    Sought::Nothing
+    None
 }
 
 // Runs one cycle and writes its line; answers the line's length.
@@ -130,7 +116,8 @@ fn print_cycle(
     decimal::put_line(&mut line[..], number, &state[1..end])
 }
 
-// The next line of a trial that is under way, written to the start of `line`.
+// The next line of a trial that is under way, written to the start of `line`: its length and the progress after it; none at
+// the end of the script.
 pub fn next_line(
     image: &[u8],
     text: &[u8],
@@ -138,7 +125,7 @@ pub fn next_line(
     samples: &mut [i32],
     state: &mut [i32],
     line: &mut [u8],
-) -> Next
+) -> Option<(usize, Progress)>
     requires { Underway image.now text.now progress samples.old state.old × (1024 ≤ length line.old) }
     ensures steps { StepsOn image.now text.now progress samples.old state.old
         samples.new state.new line.new result }
@@ -156,11 +143,10 @@ pub fn next_line(
             left: left - 1,
             line: number + 1,
         };
-        return Next::Line(size, next);
+        return Some((size, next));
     }
-    let sought = seek(text, at, &mut samples[..]);
-    let Sought::Cycle(after, more) = sought else {
-        return Next::Ended;
+    let Some((after, more)) = seek(text, at, &mut samples[..]) else {
+        return None;
     };
     let size = print_cycle(image, number, &samples[..], &mut state[..], &mut line[..]);
     let next = Progress {
@@ -168,7 +154,7 @@ pub fn next_line(
         left: more,
         line: number + 1,
     };
-    Next::Line(size, next)
+    Some((size, next))
 }
 
 // As many lines as the block has space for, one after another from its start.
@@ -189,6 +175,7 @@ pub fn next_block(
 {
     let mut reached = progress;
     let mut size: usize = 0;
+    // A `while`: how much space is left depends on the line.
     while LINE <= block.len() - size {
         let next = next_line(
             image,
@@ -198,7 +185,7 @@ pub fn next_block(
             &mut state[..],
             &mut block[size..],
         );
-        let Next::Line(length, after) = next else {
+        let Some((length, after)) = next else {
             return Block {
                 size: size,
                 progress: reached,

@@ -9,7 +9,6 @@ ghost use Rattle.model.specs.Rules.Width.{
   schedule_width,
   code_width,
   script_width,
-  reach,
   in_program,
   in_expression,
   in_schedule,
@@ -18,145 +17,137 @@ ghost use Rattle.model.specs.Rules.Width.{
   read_width,
 };
 
-use model::{Kind, Width};
+use model::Kind;
 
 // A program text.
-pub fn program(byte: u8) -> Width
+pub fn program(byte: u8) -> Option<usize>
     ensures { result ≡ program_width byte }
 {
     match byte {
         // END
-        0x00 => Width::Bytes(1),
+        0x00 => Some(1),
         // IN period, word
-        0x10 => Width::Bytes(6),
+        0x10 => Some(6),
         // EQ period, word, weight
-        0x11 => Width::Bytes(8),
+        0x11 => Some(8),
         // LAT mode, bound
-        0x12 => Width::Bytes(4),
+        0x12 => Some(4),
         // LINK signal
-        0x13 => Width::Bytes(2),
+        0x13 => Some(2),
         // CAP limit
-        0x14 => Width::Bytes(5),
+        0x14 => Some(5),
         // TAG label
-        0x15 => Width::Bytes(3),
+        0x15 => Some(3),
         // ROW low, high, result
-        0x16 => Width::Bytes(13),
-        _ => Width::Unlisted,
+        0x16 => Some(13),
+        _ => None,
     }
 }
 
 // An expression.
-pub fn expression(byte: u8) -> Width
+pub fn expression(byte: u8) -> Option<usize>
     ensures { result ≡ expression_width byte }
 {
     match byte {
         // CONST word
-        0x20 => Width::Bytes(5),
+        0x20 => Some(5),
         // NOW, LAST signal
-        0x21..=0x22 => Width::Bytes(2),
+        0x21..=0x22 => Some(2),
         // WHEN, LASTWHEN, CURRENT signal, i, n
-        0x23..=0x25 => Width::Bytes(4),
+        0x23..=0x25 => Some(4),
         // ADD to MAX
-        0x30..=0x36 => Width::Bytes(1),
+        0x30..=0x36 => Some(1),
         // NEG
-        0x38 => Width::Bytes(1),
+        0x38 => Some(1),
         // IF
-        0x3A => Width::Bytes(1),
+        0x3A => Some(1),
         // TABLE
-        0x3B => Width::Bytes(1),
-        _ => Width::Unlisted,
+        0x3B => Some(1),
+        _ => None,
     }
 }
 
 // A schedule text.
-pub fn schedule(byte: u8) -> Width
+pub fn schedule(byte: u8) -> Option<usize>
     ensures { result ≡ schedule_width byte }
 {
     match byte {
         // END
-        0x00 => Width::Bytes(1),
+        0x00 => Some(1),
         // PUT signal, phase
-        0x40 => Width::Bytes(3),
-        _ => Width::Unlisted,
+        0x40 => Some(3),
+        _ => None,
     }
 }
 
 // An image's code.
-pub fn code(byte: u8) -> Width
+pub fn code(byte: u8) -> Option<usize>
     ensures { result ≡ code_width byte }
 {
     match byte {
         // ADD to MAX
-        0x30..=0x36 => Width::Bytes(1),
+        0x30..=0x36 => Some(1),
         // NEG
-        0x38 => Width::Bytes(1),
+        0x38 => Some(1),
         // IF
-        0x3A => Width::Bytes(1),
+        0x3A => Some(1),
         // TABLE
-        0x3B => Width::Bytes(1),
+        0x3B => Some(1),
         // PUSH word
-        0x50 => Width::Bytes(5),
+        0x50 => Some(5),
         // LOAD, FETCH signal
-        0x51..=0x52 => Width::Bytes(2),
+        0x51..=0x52 => Some(2),
         // STORE signal
-        0x5F => Width::Bytes(2),
-        _ => Width::Unlisted,
+        0x5F => Some(2),
+        _ => None,
     }
 }
 
 // Script of a bench trial.
-pub fn script(byte: u8) -> Width
+pub fn script(byte: u8) -> Option<usize>
     ensures { result ≡ script_width byte }
 {
     match byte {
         // END
-        0x00 => Width::Bytes(1),
+        0x00 => Some(1),
         // SET signal, word
-        0x70 => Width::Bytes(6),
+        0x70 => Some(6),
         // RUN count
-        0x71 => Width::Bytes(2),
-        _ => Width::Unlisted,
+        0x71 => Some(2),
+        _ => None,
     }
 }
 
-// How far the command of a listed byte reaches.
-fn reach(width: Width) -> usize
-    ensures { result ≡ reach width }
-{
-    match width {
-        Width::Bytes(n) => n,
-        Width::Unlisted => 0,
-    }
-}
-
+// How far the command of a listed byte reaches, for each kind of text; 0 for another byte. Five functions of one line: a type
+// for each kind with a trait for its list would be longer, and no plainer at a call.
 pub fn in_program(byte: u8) -> usize
     ensures { result ≡ in_program byte }
 {
-    reach(program(byte))
+    program(byte).unwrap_or(0)
 }
 
 pub fn in_expression(byte: u8) -> usize
     ensures { result ≡ in_expression byte }
 {
-    reach(expression(byte))
+    expression(byte).unwrap_or(0)
 }
 
 pub fn in_schedule(byte: u8) -> usize
     ensures { result ≡ in_schedule byte }
 {
-    reach(schedule(byte))
+    schedule(byte).unwrap_or(0)
 }
 
 pub fn in_code(byte: u8) -> usize
     ensures { result ≡ in_code byte }
 {
-    reach(code(byte))
+    code(byte).unwrap_or(0)
 }
 
 pub fn in_script(byte: u8) -> usize
     ensures { result ≡ in_script byte }
 {
-    reach(script(byte))
+    script(byte).unwrap_or(0)
 }
 
 // The reads, by their kinds.

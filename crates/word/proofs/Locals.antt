@@ -1,44 +1,41 @@
 -- What a signed local's bits give back, and the steps from a test on words to the definitions. Assumes nothing.
 use mathlib.Core.Path.{◌≡◌, refl, sym, ap, ap₂, ◌∙◌}
-use mathlib.Core.Bool.{Bool, true, false}
-use Prim.Native.Nat.{ℕ, zero, suc, ◌-◌, ◌^◌, ◌≤◌, ◌<◌}
-use native.Mathlib.Nat.{zero-add}
+use mathlib.Core.Bool.{Bool, true, false, cond}
+use Prim.Native.Nat.{ℕ, suc, ◌-◌, ◌%◌, ◌^◌, ◌<◌}
 use native.Mathlib.Omega.{arith}
-use borrow.Author.Tests.{ltb-true, le-ltb, eq-eqb, ne_eqb}
-use lib.IntN.{ℤ, pos, negsuc, ◌-ℤ◌}
+use native.Mathlib.Decide.{dec_lt, ℕ_discrete}
+use borrow.Author.Tests.{ltb-true, lt-ltb, le-ltb, eq-eqb, ne_eqb}
+use lib.Dec.{ltb, eqb}
+use lib.IntN.{ℤ, pos, negsuc}
 use lib.Signed.{lt_z, mag}
 use mir.Syntax.{w32}
-use mir.Val.{to_z, of_z, SFits}
+use mir.Val.{to_z, of_z, SFits, bool_byte}
 use mir.Facts.{to_z-of_z}
-use mir.ValLaws.{to_z_pos, to_z-neg}
 use borrow.Author.Rules.{sfits_of}
-use Rattle.model.specs.Rules.Word.{bits_of, eq_z}
+use Rattle.std.specs.Int.{int_min, int_max}
+use Rattle.model.specs.Rules.Word.{bits_of, bit_word, eq_z, min_word, max_word}
 
 -- a test on two words, of their bits
 pub test : {a b : ℤ} {t : Bool} → SFits w32 a → SFits w32 b → lt_z (to_z w32 (of_z w32 a)) (to_z w32 (of_z w32 b)) ≡ t → lt_z a b ≡ t
 test fa fb h = simp (to_z-of_z fa, to_z-of_z fb) at h
 
--- -1 - z
-flip-neg : (n : ℕ) → negsuc 0 -ℤ negsuc n ≡ pos n
-flip-neg n = rw (le-ltb (suc n) 1 (omega arith)) (ap pos (omega arith))
+-- a word's bits
+pub bits-of_z : {z : ℤ} → SFits w32 z → of_z w32 z ≡ bits_of z
+unfolding bits_of
+bits-of_z {z = pos n} f = plain n f.sfits
+  where
+    plain : (n : ℕ) → n < 2 ^ 31 → n ≡ n % 2 ^ 32
+    plain n h = omega arith
+bits-of_z {z = negsuc n} f = minus n f.sfits
+  where
+    minus : (n : ℕ) → n < 2 ^ 31 → 2 ^ 32 - suc n ≡ 2 ^ 32 - suc (n % 2 ^ 32)
+    minus n h = omega arith
 
-flip-pos : (n : ℕ) → negsuc 0 -ℤ pos n ≡ negsuc n
-flip-pos zero = refl
-flip-pos (suc n) = ap (λ (k : ℕ). negsuc (suc k)) (zero-add n)
-
--- what stands in the two branches of `bits`: the word is -1 - n, or n
+-- a word below 0 is -1 - n
 pub record Minus (z : ℤ) : Type 0 where
   pub n : ℕ
   pub out : 4294967295 - n ≡ bits_of z
   pub small : n < 2 ^ 31
-  pub flipped : negsuc 0 -ℤ to_z w32 (of_z w32 z) ≡ pos n
-  pub back : to_z w32 (of_z w32 (negsuc 0 -ℤ to_z w32 (of_z w32 z))) ≡ pos n
-
-pub record Plus (z : ℤ) : Type 0 where
-  pub n : ℕ
-  pub out : n ≡ bits_of z
-  pub small : n < 2 ^ 31
-  pub back : to_z w32 (of_z w32 z) ≡ pos n
 
 pub minus : {z : ℤ} → SFits w32 z → lt_z (to_z w32 (of_z w32 z)) (pos 0) ≡ true → Minus z
 unfolding bits_of
@@ -46,30 +43,38 @@ minus {z = pos n} f h = absurd (never (ltb-true n 0 (rw (to_z-of_z f) at h)))
   where
     never : n < 0 → ⊥
     never p = omega arith
-minus {z = negsuc n} f h =
-    record {
-      n = n;
-      small = f.sfits;
-      flipped = rw (to_z-of_z f) (flip-neg n);
-      back = rw (to_z-of_z f, flip-neg n) (to_z-of_z {w = w32} (sfits_of f.sfits));
-      out = out n f.sfits;
-    }
+minus {z = negsuc n} f h = record { n = n; small = f.sfits; out = out n f.sfits }
   where
     out : (n : ℕ) → n < 2 ^ 31 → 4294967295 - n ≡ bits_of (negsuc n)
     out n h = omega arith
 
-pub plus : {z : ℤ} → SFits w32 z → lt_z (to_z w32 (of_z w32 z)) (pos 0) ≡ false → Plus z
-unfolding bits_of
-plus {z = pos n} f h = record { n = n; small = f.sfits; back = to_z-of_z f; out = out n f.sfits }
+-- a test as a number
+pub bit_of : (t : Bool) → pos (bool_byte t) ≡ bit_word t
+bit_of true = refl
+bit_of false = refl
+
+-- the library's lesser and greater of two numbers: where both tests fail, the numbers are equal
+by_order : (x y : ℕ) {u v : ℤ} → (x ≡ y → u ≡ v) → cond (ltb x y) u v ≡ cond (ltb y x) v u
+by_order x y {u} {v} same = go (dec_lt x y) (dec_lt y x)
   where
-    out : (n : ℕ) → n < 2 ^ 31 → n ≡ bits_of (pos n)
-    out n h = omega arith
-plus {z = negsuc n} f h =
-    let e : ◌≡◌ {A = Bool} true false = rw (to_z-of_z f) at h in
-    let z : ◌≡◌ {A = ℕ} 0 1 = cc in absurd (zero≢one z)
-  where
-    zero≢one : ◌≡◌ {A = ℕ} 0 1 → ⊥
-    zero≢one p = omega arith
+    go : Dec (x < y) → Dec (y < x) → cond (ltb x y) u v ≡ cond (ltb y x) v u
+    go (yes p) q = simp (lt-ltb x y p, le-ltb y x (omega arith))
+    go (no p) (yes q) = simp (lt-ltb y x q, le-ltb x y (omega arith))
+    go (no p) (no q) = simp (le-ltb x y (omega arith), le-ltb y x (omega arith)) (sym (same (omega arith)))
+
+pub least_of : (a b : ℤ) → int_min a b ≡ min_word a b
+unfolding min_word
+least_of (pos a) (pos b) = by_order b a (ap pos)
+least_of (pos a) (negsuc b) = refl
+least_of (negsuc a) (pos b) = refl
+least_of (negsuc a) (negsuc b) = by_order a b (λ e. ap negsuc (sym e))
+
+pub greatest_of : (a b : ℤ) → int_max a b ≡ max_word a b
+unfolding max_word
+greatest_of (pos a) (pos b) = by_order b a (λ e. ap pos (sym e))
+greatest_of (pos a) (negsuc b) = refl
+greatest_of (negsuc a) (pos b) = refl
+greatest_of (negsuc a) (negsuc b) = by_order a b (ap negsuc)
 
 -- equal words, and equal bits
 pub same_bits : {a b : ℤ} → SFits w32 a → SFits w32 b → of_z w32 a ≡ of_z w32 b → a ≡ b
@@ -94,13 +99,13 @@ test-same fa fb h = eq_z-same (same_bits fa fb h)
 pub test-other : (a b : ℤ) → (of_z w32 a ≡ of_z w32 b → ⊥) → eq_z a b ≡ false
 test-other a b h = eq_z-other a b (λ e. h (ap (of_z w32) e))
 
--- what stands in the second branch of `from_bits`
-pub high : (u : ℕ) → 2 ^ 31 ≤ u → u < 2 ^ 32 → negsuc 0 -ℤ to_z w32 (4294967295 - u) ≡ to_z w32 u
-high u h l = rw (to_z_pos w32 (4294967295 - u) (omega arith), flip-pos (4294967295 - u))
-    (sym (ap (to_z w32) same ∙ to_z-neg w32 (4294967295 - u) (omega arith)))
+-- the test of two words' bits
+pub eq_bits : {a b : ℤ} → SFits w32 a → SFits w32 b → eqb (of_z w32 a) (of_z w32 b) ≡ eq_z a b
+eq_bits {a} {b} fa fb = go (ℕ_discrete (of_z w32 a) (of_z w32 b))
   where
-    same : u ≡ 2 ^ 32 - suc (4294967295 - u)
-    same = omega arith
+    go : Dec (of_z w32 a ≡ of_z w32 b) → eqb (of_z w32 a) (of_z w32 b) ≡ eq_z a b
+    go (yes h) = eq-eqb _ _ h ∙ sym (test-same fa fb h)
+    go (no h) = ne_eqb _ _ h ∙ sym (test-other a b h)
 
 -- a word that a call gave, read back from its bits
 pub kept : (z : ℤ) → mag z < 2 ^ 31 → to_z w32 (of_z w32 z) ≡ z

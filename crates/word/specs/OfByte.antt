@@ -1,7 +1,6 @@
 -- Operators with two operands by their byte.
 use Rattle.std.specs.Prelude.{ℕ, cond, eqb}
 use Rattle.model.specs.declared.Binary.{Binary}
-use Rattle.model.specs.declared.Binary.TheVariants as Binary
 
 -- The operator of a byte from 30 to 36, in a text and in code.
 unfoldable pub binary_of : ℕ → Binary

@@ -25,85 +25,71 @@ use model::Binary;
 pub fn bits(w: i32) -> u32
     ensures { result ≡ bits_of w }
 {
-    if w < 0 {
-        4294967295 - ((-1 - w) as u32)
-    } else {
-        w as u32
-    }
+    w.cast_unsigned()
 }
 
 // The word with these bits.
 pub fn from_bits(u: u32) -> i32
     ensures { result ≡ word_of u }
 {
-    if u < 2147483648 {
-        u as i32
-    } else {
-        -1 - ((4294967295 - u) as i32)
-    }
+    u.cast_signed()
 }
 
-// The word nearest to a number.
+// The word nearest to a number. A sum by `saturating_add` and a difference by `saturating_sub`: tried, slower.
 fn nearest(x: i64) -> i32
     ensures { result ≡ nearest x }
 {
-    if x < -2147483648 {
-        return -2147483648;
-    }
-    if 2147483647 < x {
-        return 2147483647;
-    }
-    x as i32
+    x.clamp(-2147483648, 2147483647) as i32
 }
 
 pub fn add(a: i32, b: i32) -> i32
     ensures { result ≡ add_word a b }
 {
-    nearest((a as i64) + (b as i64))
+    nearest(i64::from(a) + i64::from(b))
 }
 
 pub fn sub(a: i32, b: i32) -> i32
     ensures { result ≡ sub_word a b }
 {
-    nearest((a as i64) - (b as i64))
+    nearest(i64::from(a) - i64::from(b))
 }
 
 pub fn mul(a: i32, b: i32) -> i32
     ensures { result ≡ mul_word a b }
 {
-    nearest((a as i64) * (b as i64))
+    a.saturating_mul(b)
 }
 
 pub fn neg(a: i32) -> i32
     ensures { result ≡ neg_word a }
 {
-    nearest(0 - (a as i64))
+    a.saturating_neg()
 }
 
 // 1 where a is below b, else 0.
 pub fn less(a: i32, b: i32) -> i32
     ensures { result ≡ less_word a b }
 {
-    if a < b { 1 } else { 0 }
+    i32::from(a < b)
 }
 
 // 1 where a is b, else 0.
 pub fn same(a: i32, b: i32) -> i32
     ensures { result ≡ same_word a b }
 {
-    if a == b { 1 } else { 0 }
+    i32::from(a == b)
 }
 
 pub fn least(a: i32, b: i32) -> i32
     ensures { result ≡ min_word a b }
 {
-    if a < b { a } else { b }
+    a.min(b)
 }
 
 pub fn greatest(a: i32, b: i32) -> i32
     ensures { result ≡ max_word a b }
 {
-    if a < b { b } else { a }
+    a.max(b)
 }
 
 // a, or b where c is 0.
@@ -143,21 +129,12 @@ pub fn binary(operator: Binary, a: i32, b: i32) -> i32
     }
 }
 
-// A byte as a number that sums of bytes fit in.
-fn bits_of_byte(byte: u8) -> u32
-    ensures { (result ≡ byte) × (result < 256) }
-{
-    byte as u32
-}
-
 // The number in the two bytes at `at`.
 pub fn two_at(text: &[u8], at: usize) -> u16
     requires { at + 2 ≤ length text.now }
     ensures { result ≡ two_at text.now at }
 {
-    let a = bits_of_byte(text[at]);
-    let b = bits_of_byte(text[at + 1]);
-    (a + 256 * b) as u16
+    u16::from_le_bytes([text[at], text[at + 1]])
 }
 
 // The number in the four bytes at `at`.
@@ -165,11 +142,7 @@ pub fn four_at(text: &[u8], at: usize) -> u32
     requires { at + 4 ≤ length text.now }
     ensures { result ≡ four_at text.now at }
 {
-    let a = bits_of_byte(text[at]);
-    let b = bits_of_byte(text[at + 1]);
-    let c = bits_of_byte(text[at + 2]);
-    let d = bits_of_byte(text[at + 3]);
-    a + 256 * b + 65536 * c + 16777216 * d
+    u32::from_le_bytes([text[at], text[at + 1], text[at + 2], text[at + 3]])
 }
 
 // The word in the four bytes at `at`.
@@ -185,8 +158,7 @@ pub fn put_two(out: &mut [u8], at: usize, n: usize)
     requires { at + 2 ≤ length out.old }
     ensures { out.new ≡ sets out.old at (two_bytes n) }
 {
-    out[at] = (n % 256) as u8;
-    out[at + 1] = (n / 256 % 256) as u8;
+    out[at..at + 2].copy_from_slice(&((n % 65536) as u16).to_le_bytes());
 }
 
 // Writes the four bytes of a word.
@@ -194,9 +166,5 @@ pub fn put_word(out: &mut [u8], at: usize, w: i32)
     requires { at + 4 ≤ length out.old }
     ensures { out.new ≡ sets out.old at (word_bytes w) }
 {
-    let u = bits(w);
-    out[at] = (u % 256) as u8;
-    out[at + 1] = (u / 256 % 256) as u8;
-    out[at + 2] = (u / 65536 % 256) as u8;
-    out[at + 3] = (u / 16777216 % 256) as u8;
+    out[at..at + 4].copy_from_slice(&w.to_le_bytes());
 }

@@ -2,43 +2,46 @@
 use Prim.Native.Nat.{ℕ, ◌+◌, ◌≤◌}
 use mathlib.Core.Bool.{true}
 use mathlib.Core.List.{List}
-use mathlib.Core.Path.{◌≡◌, refl, sym, ◌∙◌}
+use mathlib.Core.Path.{◌≡◌, refl, sym, ap, ◌∙◌}
 use native.Mathlib.Omega.{arith}
-use borrow.Author.Tests.{leb-true, lt-ltb}
+use borrow.Author.Tests.{lt-ltb}
+use Rattle.std.proofs.lemmas.Result.{err_from_is_err_and}
+use lib.IntN.{ℤ}
 use lib.Dec.{leb}
 use lib.ListN.{length}
-use Rattle.model.specs.Rules.Machine.{count_of, well_formed}
+use Rattle.model.specs.Rules.Machine.{count_of, well_formed, stretch, Effect, Does, cycle_of, cycled_of}
+use Rattle.model.specs.Rules.Outcome.{Outcome}
+use Rattle.board.specs.Board.{cycle_in}
 use Rattle.machine.specs.Runnable.{Runnable}
 use Rattle.machine.proofs.Machine.{gives-refusal, gives-done, cycle-image, cycle-position}
 use Rattle.machine.proofs.Judging.{runs_done}
 use Rattle.board.proofs.Stretch.{gives-effect, few-signals, outside-27, inside-runs}
 use Rattle.board.proofs.cycle_place.Goals as goal
-use Rattle.board.proofs.cycle_place.Goals.{Else-not-is_inside, Else-not-is_positioned, Else-not-well_formed, Start}
+use Rattle.board.proofs.cycle_place.Goals.{Else-not-is_positioned, Else-not-well_formed, Start}
 
-inside : (e : Else-not-is_inside) → let a = e.args in leb (a.start + a.size) (length a.images.now) ≡ true
-inside e = sym e.is_inside.ensures ∙ e.if-not-is_inside.false
+pub returns-in_err-lent : goal.returns-in_err-lent
+returns-in_err-lent c =
+    let p = err_from_is_err_and c.from_residual.result c.from_residual.ensures.1 in
+    let e = c.in_err-lent.ensures.err in
+    rw (p.1, p.2, e.1) (gives-effect (outside-27 _ _ _ _ _ e.0) refl refl)
 
-pub returns-then-not-is_inside : goal.returns-then-not-is_inside
-returns-then-not-is_inside c =
-    gives-effect (outside-27 _ _ _ _ _ (sym c.is_inside.ensures ∙ c.if-not-is_inside.true)) c.stopped.ensures
-    refl
-
-pub overflow_add-end : goal.overflow_add-end
-overflow_add-end c =
-    let a = c.args in
-    omega (arith, leb-true (a.start + a.size) (length a.images.now) (inside c))
+-- what a cycle on the stretch answers and leaves
+runs-there : (lent images : List ℕ) (start size : ℕ) (words samples : List ℤ) {answer : Outcome ℕ} {left : List ℤ} →
+    (leb (start + size) (length images) ≡ true) × (lent ≡ stretch images start (start + size)) →
+    Does (cycle_of lent words samples) answer left → Does (cycle_in images start size words samples) answer left
+runs-there lent images start size words samples s g =
+    let there = ap (λ (l : List ℕ). cycle_of l words samples) s.1 in
+    gives-effect (inside-runs _ _ _ _ _ s.0) (g.0 ∙ ap (λ (e : Effect ℕ ℤ). e.answer) there)
+    (g.1 ∙ ap (λ (e : Effect ℕ ℤ). e.left) there)
 
 pub returns-then-not-well_formed : goal.returns-then-not-well_formed
 returns-then-not-well_formed c =
     let ill = sym c.well_formed-2.ensures ∙ c.if-not-well_formed.true in
-    let g = gives-refusal (cycle-image c.image_in-image.ensures _ _ ill) c.stopped-then-not-well_formed.ensures in
-    gives-effect (inside-runs _ _ _ _ _ (inside (goal.at.returns-then-not-well_formed c).Else-not-is_inside)) g.0 g.1
+    runs-there _ _ _ _ _ _ c.in_ok-lent.ensures.ok
+    (gives-refusal (cycle-image c.image_in-image.ensures _ _ ill) (ap cycled_of c.refuse.ensures))
 
 -- where the image is well formed
 module _ (e : Else-not-well_formed) where
-  abbrev there : Else-not-is_inside
-  there = (goal.at.Else-not-well_formed e).Else-not-is_inside
-
   abbrev start : Start
   start = (goal.at.Else-not-well_formed e).Start
 
@@ -71,20 +74,15 @@ returns-then-not-is_positioned c =
     let e = (goal.at.returns-then-not-is_positioned c).Else-not-well_formed in
     let room = lt-ltb (count_of (image e)) (length (start e).args.words.now) (omega (arith, few e, (start e).requires.0)) in
     let none = sym c.is_positioned.ensures ∙ c.if-not-is_positioned.true in
-    let g = gives-refusal (cycle-position e.image_in-image.ensures _ _ (well e) room none)
-    c.stopped-then-not-is_positioned.ensures in
-    gives-effect (inside-runs _ _ _ _ _ (inside (goal.at.Else-not-well_formed e).Else-not-is_inside)) g.0 g.1
+    runs-there _ _ _ _ _ _ c.in_ok-lent.ensures.ok
+    (gives-refusal (cycle-position e.image_in-image.ensures _ _ (well e) room none) (ap cycled_of c.refuse-then-not-is_positioned.ensures))
 
 pub returns : goal.returns
 returns c =
     let p = (goal.at.returns c).Else-not-is_positioned in
     let e = (goal.at.returns c).Else-not-well_formed in
     let runs = runs_done e.image_in-image.ensures (runnable p) in
-    let g = gives-done runs c.run_cycle-total.ensures.count c.run_cycle-total.ensures.left in
-    gives-effect (inside-runs _ _ _ _ _ (inside (goal.at.Else-not-well_formed e).Else-not-is_inside)) g.0 g.1
-
-pub slice_bounds-lent-end : goal.slice_bounds-lent-end
-slice_bounds-lent-end c = leb-true _ _ (inside c)
+    runs-there _ _ _ _ _ _ c.in_ok-lent.ensures.ok (gives-done runs c.run_cycle-total.ensures.count c.run_cycle-total.ensures.left)
 
 pub run_cycle-total-requires : goal.run_cycle-total-requires
 run_cycle-total-requires c = runnable (goal.at.run_cycle-total-requires c).Else-not-is_positioned

@@ -1,10 +1,10 @@
 -- `board::first_due` meets its contract. Assumes nothing.
+use Rattle.std.specs.Prelude.{Some, None}
 use Prim.Native.Nat.{ℕ, ◌+◌, ◌-◌, ◌≤◌, ◌<◌}
 use mathlib.Core.Bool.{true, false}
 use mathlib.Core.Path.{◌≡◌, sym, ◌∙◌}
 use native.Mathlib.Decide.{dec_lt}
 use native.Mathlib.Omega.{arith}
-use Rattle.model.specs.declared.Found.TheVariants.{At, Nowhere}
 use Rattle.board.specs.Board.{place_at}
 use Rattle.board.specs.Board.{Board}
 use Rattle.board.specs.Record.{board_of}
@@ -28,7 +28,7 @@ returns-then-is_due c =
     let b = board_of a.words.now in
     let due : (place_at b c.loop-place.place).due ≡ true =
     due-held a.words.now c.loop-place.place c.loop-place-test.true ∙ sym c.is_due.ensures ∙ c.if-is_due.true in
-    first-is a.from (4 - a.from) (λ k. (place_at b k).due) (At c.loop-place.place)
+    first-is a.from (4 - a.from) (λ k. (place_at b k).due) (Some c.loop-place.place)
     (c.if-from-place.true, omega arith, due, c.loop-place.invariant)
 
 pub loop-place-preserved : goal.loop-place-preserved
@@ -44,7 +44,7 @@ loop-place-preserved c =
 pub returns : goal.returns
 returns c =
     let a = c.args in
-    first-is a.from (4 - a.from) (λ k. (place_at (board_of a.words.now) k).due) Nowhere
+    first-is a.from (4 - a.from) (λ k. (place_at (board_of a.words.now) k).due) None
     (λ m low high. c.loop-place.invariant m low (omega arith))
 
 pub loop-place-init : goal.loop-place-init

@@ -1,5 +1,5 @@
 -- `board::first_due` meets its contract. Assumes nothing.
-use Prim.Native.Nat.{ℕ, ◌-◌, ◌≤◌, ◌<◌}
+use Prim.Native.Nat.{ℕ, ◌≤◌, ◌<◌}
 use mathlib.Core.Bool.{false}
 use mathlib.Core.Path.{◌≡◌}
 use Rattle.board.specs.Board.{place_at}
@@ -8,6 +8,3 @@ use Rattle.board.proofs.first_due.Given as goal
 
 abbrev pub invariant-loop-place : goal.invariant-loop-place
 invariant-loop-place l = (m : ℕ) → l.from ≤ m → m < l.place → (place_at (board_of l.words) m).due ≡ false
-
-abbrev pub decreases-loop-place : goal.decreases-loop-place
-decreases-loop-place l = 4 - l.place

@@ -3,6 +3,8 @@ use Prim.Native.Nat.{ℕ}
 use mathlib.Core.Bool.{true}
 use mathlib.Core.List.{List}
 use mathlib.Core.Path.{◌≡◌, refl, sym, ap, ◌∙◌}
+use Rattle.std.specs.Prelude.{Err}
+use Rattle.std.proofs.lemmas.Result.{err_from_is_err_and}
 use borrow.Author.Tests.{lt-ltb, le-ltb, le-leb, lt-leb}
 use lib.Dec.{leb, ltb}
 use lib.IntN.{ℤ}
@@ -37,7 +39,7 @@ returns-then-place-ge-PLACES c =
     let a = c.args in
     let e = load-place (board_of a.words.now) a.images.now a.state.now a.place a.start a.size
     (le-ltb _ _ c.if-place-ge-PLACES.true) in
-    let g = gives a.words.now a.place a.start a.size e c.refused.ensures refl refl in
+    let g = gives a.words.now a.place a.start a.size e (ap ran_of c.refuse.ensures) refl refl in
     record { answer = g.0; kept = g.1; left = g.2 }
 
 pub returns-then-state-lt-WORDS : goal.returns-then-state-lt-WORDS
@@ -45,20 +47,21 @@ returns-then-state-lt-WORDS c =
     let a = c.args in
     let e = load-state (board_of a.words.now) a.images.now a.state.now a.place a.start a.size
     (lt-ltb _ _ c.if-place-ge-PLACES.false) (lt-leb _ _ c.if-state-lt-WORDS.true) in
-    let g = gives a.words.now a.place a.start a.size e c.refused-then-state-lt-WORDS.ensures refl refl in
+    let g = gives a.words.now a.place a.start a.size e (ap ran_of c.refuse-then-state-lt-WORDS.ensures) refl refl in
     record { answer = g.0; kept = g.1; left = g.2 }
 
-pub returns-in_default : goal.returns-in_default
-returns-in_default c =
-    let e = (goal.at.returns-in_default c).Else-state-lt-WORDS in
+pub returns-in_err-load_place : goal.returns-in_err-load_place
+returns-in_err-load_place c =
+    let e = (goal.at.returns-in_err-load_place c).Else-state-lt-WORDS in
     let a = c.args in
-    let f = c.in_default.field-0 in
+    let f = c.in_err-load_place.field-0.0 in
     let words = place_words a.place a.state.now in
     let h : (reset_in a.images.now a.start a.size (place_words a.place a.state.now)).answer ≡ refused f =
-    sym c.load_place-ran.ensures.answer ∙ ap ran_of c.in_default.is in
+    sym c.in_err-load_place.ensures.answer in
+    let p = err_from_is_err_and c.from_residual.result c.from_residual.ensures.1 in
     let t = load-refused (board_of a.words.now) a.images.now a.state.now a.place a.start a.size (below e) (enough e) f h in
-    let g = gives a.words.now a.place a.start a.size t (ap ran_of c.in_default.is) refl
-    (c.load_place-ran.ensures.left ∙
+    let g = gives a.words.now a.place a.start a.size t (ap ran_of (p.1 ∙ ap Err p.2)) refl
+    (c.load_place.ensures.left ∙
     ap (with_words a.place a.state.now)
     (on-keeps a.images.now a.start a.size words (λ image. reset_of image words) (reset-keeps words) f h) ∙
     words_same a.place a.state.now) in
@@ -69,8 +72,8 @@ unfolding loaded_words
 returns c =
     let e = (goal.at.returns c).Else-state-lt-WORDS in
     let a = c.args in
-    let d = ap ran_of c.in-Done.is in
+    let d = ap ran_of c.in_ok-load_place.was in
     let t = load-done (board_of a.words.now) a.images.now a.state.now a.place a.start a.size (below e) (enough e) 0
-    (sym c.load_place-ran.ensures.answer ∙ d) in
-    let g = gives a.words.now a.place a.start a.size t d refl c.load_place-ran.ensures.left in
+    (sym c.load_place.ensures.answer ∙ d) in
+    let g = gives a.words.now a.place a.start a.size t refl refl c.load_place.ensures.left in
     record { answer = g.0; kept = g.1; left = g.2 }

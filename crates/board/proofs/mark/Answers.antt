@@ -1,6 +1,7 @@
 -- `board::mark` meets its contract. Assumes nothing.
 use mathlib.Core.Path.{◌≡◌, sym, ap, ◌∙◌}
 use borrow.Author.Tests.{lt-ltb, le-ltb}
+use Rattle.model.specs.Rules.Machine.{ran_of}
 use Rattle.board.specs.Board.{place_at}
 use Rattle.board.proofs.Called.{mark-place, mark-loaded, mark-done}
 use Rattle.board.proofs.Cases.{call_answer}
@@ -19,7 +20,7 @@ returns-then-place-ge-PLACES c =
     let a = c.args in
     let e = sym (ap call_answer (mark-place (board_of a.words.now) a.place (le-ltb _ _ c.if-place-ge-PLACES.true))) in
     record {
-      answer = c.refused.ensures ∙ e;
+      answer = ap ran_of c.refuse.ensures ∙ e;
       kept = ap (mark_record a.words.now a.place) e;
     }
 
@@ -30,7 +31,7 @@ returns-then-not-is_loaded c =
     let loaded = held (goal.at.returns-then-not-is_loaded c).After-is_loaded ∙ c.if-not-is_loaded.true in
     let e = sym (ap call_answer (mark-loaded (board_of a.words.now) a.place lt loaded)) in
     record {
-      answer = c.refused-then-not-is_loaded.ensures ∙ e;
+      answer = ap ran_of c.refuse-then-not-is_loaded.ensures ∙ e;
       kept = ap (mark_record a.words.now a.place) e;
     }
 

@@ -1,40 +1,35 @@
 -- `check_hypercycle::check_hypercycle` meets its contract. Assumes nothing.
-use Prim.Native.Nat.{◌-◌, ◌≤◌, ◌<◌}
-use mathlib.Core.Path.{◌≡◌, refl, sym, ap, ◌∙◌}
+use Prim.Native.Nat.{◌+◌, ◌-◌, ◌<◌}
+use mathlib.Core.Path.{◌≡◌, sym, ap, ◌∙◌}
 use native.Mathlib.Omega.{arith}
-use lib.ListN.{length}
-use borrow.Author.Rules.{rules}
-use Rattle.model.specs.Rules.Program.{Program}
-use Rattle.model.specs.Rules.Rates.{hypercycle_of, hypercycle}
-use Rattle.text_program.specs.Tables.{PeriodsOf}
-use Rattle.basics.specs.Judgement.{Answers}
+use Rattle.model.specs.Rules.Outcome.{yielded_of, accepted}
+use Rattle.model.specs.Rules.Rates.{is_multiple, hypercycle_of}
 use Rattle.check_hypercycle.proofs.Multiples.{left_from, cycle_start, cycle-here, cycle-later, cycle-over}
 use Rattle.check_hypercycle.proofs.check_hypercycle.Goals as goal
 
+pub loop-h-init : goal.loop-h-init
+loop-h-init c p n t = cycle_start p
+
 pub returns-then-is_multiple : goal.returns-then-is_multiple
-unfolding Answers
-returns-then-is_multiple c =
-    let l = c.loop-h in
-    let lt : l.h < 240 = omega (arith, c.loop-h-test.true) in
-    λ p n t.
-    rw (l.invariant.1 p n t ∙ cycle-here p l.h lt (sym (c.is_multiple.ensures p n t) ∙ c.if-is_multiple.true)) (refl, refl)
+returns-then-is_multiple c p n t =
+    let h = c.loop-h.h in
+    let e : h - 1 + 1 ≡ h = omega (arith, c.loop-h.auto.h) in
+    sym (c.loop-h.invariant p n t
+    ∙ cycle-here p (h - 1) (omega (arith, c.loop-h-test.true, c.loop-h.auto.h))
+    (ap (is_multiple p.signals) e ∙ sym (c.is_multiple.ensures p n t) ∙ c.if-is_multiple.true)
+    ∙ ap accepted e)
 
 pub loop-h-preserved : goal.loop-h-preserved
-loop-h-preserved c =
-    let l = c.loop-h in
-    let lt : l.h < 240 = omega (arith, c.loop-h-test.true) in (
-      omega arith,
-      λ p n t.
-          l.invariant.1 p n t ∙
-          ap hypercycle_of (cycle-later p l.h lt (sym (c.is_multiple.ensures p n t) ∙ c.if-is_multiple.false)),
-    )
+loop-h-preserved c p n t =
+    let h = c.loop-h.h in
+    let e : h - 1 + 1 ≡ h = omega (arith, c.loop-h.auto.h) in
+    let next : h - 1 + 1 ≡ h + 1 - 1 = omega (arith, c.loop-h.auto.h) in
+    c.loop-h.invariant p n t
+    ∙ ap hypercycle_of (cycle-later p (h - 1) (omega (arith, c.loop-h-test.true, c.loop-h.auto.h))
+    (ap (is_multiple p.signals) e ∙ sym (c.is_multiple.ensures p n t) ∙ c.if-is_multiple.false)
+    ∙ ap (left_from p) next)
 
 pub returns : goal.returns
-unfolding Answers
-returns c =
-    let l = c.loop-h in
-    λ p n t.
-    rw (l.invariant.1 p n t ∙ cycle-over p l.h (omega (arith, c.loop-h-test.false, l.invariant.0))) c.refuse.ensures
-
-pub loop-h-init : goal.loop-h-init
-loop-h-init c = (omega arith, λ p n t. cycle_start p)
+returns c p n t =
+    let over : c.loop-h.h - 1 ≡ 240 = omega (arith, c.loop-h-test.false, c.loop-h.auto.h-end, c.loop-h.auto.h) in
+    ap yielded_of c.refuse.ensures ∙ sym (c.loop-h.invariant p n t ∙ cycle-over p _ over)

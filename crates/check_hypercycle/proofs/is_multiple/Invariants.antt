@@ -18,6 +18,3 @@ invariant-loop-s l =
     (l.s ≤ l.count) ×
     ((p : Program) → length p.signals ≡ l.count → PeriodsOf p l.periods →
     is_multiple p.signals l.h ≡ is_multiple (drop l.s p.signals) l.h)
-
-abbrev pub decreases-loop-s : goal.decreases-loop-s
-decreases-loop-s l = l.count - l.s

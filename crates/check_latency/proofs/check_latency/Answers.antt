@@ -1,4 +1,5 @@
 -- `check_latency::check_latency` meets its contract. Assumes nothing.
+use Rattle.std.specs.Prelude.{Result, Ok}
 use Prim.Native.Nat.{ℕ}
 use mathlib.Core.List.{List, [], ◌∷◌}
 use mathlib.Core.Path.{◌≡◌, refl, ap}
@@ -11,8 +12,7 @@ use Rattle.model.specs.Rules.Reads.{met}
 use Rattle.model.specs.Rules.Schedule.{Schedule}
 use Rattle.model.specs.Rules.Search.{join_from}
 use Rattle.basics.specs.Judgement.{judgement_of}
-use Rattle.basics.specs.declared.Judged.{Judged}
-use Rattle.basics.specs.declared.Judged.TheVariants as Judged
+use Rattle.model.specs.declared.Fault.{Fault}
 use Rattle.model.proofs.Pairs.Hypercycle.{hypercycle-least}
 use Rattle.model.proofs.Pairs.Verdict.{steps-accepted}
 use Rattle.model.proofs.Texts.Legal.{stands}
@@ -46,16 +46,16 @@ timed text reads t p s g m =
 
 -- A program without chains keeps every latency.
 unchained : (p : Program) (s : Schedule) (h n : ℕ) → length p.chains ≡ n → n ≡ 0 →
-    Judged.Fine ≡ judgement_of (timely p s h)
+    (Ok tt) ≡ judgement_of (timely p s h)
 unfolding timely join_from lowest judgement_of
 unchained p s h n e z = go p.chains refl
   where
-    go : (cs : List Chain) → p.chains ≡ cs → Judged.Fine ≡ judgement_of (timely p s h)
+    go : (cs : List Chain) → p.chains ≡ cs → (Ok tt) ≡ judgement_of (timely p s h)
     go [] q = rw q refl
     go (c ∷ cs) q = absurd (omega (arith, e, z, ap length q))
 
-pub returns-then-tables-eq0 : goal.returns-then-tables-eq0
-returns-then-tables-eq0 c p s g m = unchained p s _ _ g.stands.tables-are.counts.chains-are c.if-tables-eq0.true
+pub returns-then-pair-eq0 : goal.returns-then-pair-eq0
+returns-then-pair-eq0 c p s g m = unchained p s _ _ g.stands.tables-are.counts.chains-are c.if-pair-eq0.true
 
 pub judge_chains-requires : goal.judge_chains-requires
 judge_chains-requires c =

@@ -15,10 +15,7 @@ use Rattle.check_latency.proofs.Following.{Following, next-link, route-of, Begun
 use Rattle.check_latency.proofs.Indices.{rate-at}
 use Rattle.check_latency.proofs.follow.Given as goal
 
-abbrev pub invariant-loop-left : goal.invariant-loop-left
-invariant-loop-left l =
+abbrev pub invariant-loop-more : goal.invariant-loop-more
+invariant-loop-more l =
     (p : Program) (s : Schedule) → ChainsLinked l.text l.reads l.tables l.periods l.phases p s →
-    Following l.text p s (backwards (chain_at p l.chain)) l.source l.at l.left l.last l.count l.hops
-
-abbrev pub decreases-loop-left : goal.decreases-loop-left
-decreases-loop-left l = l.left
+    Following l.text p s (backwards (chain_at p l.chain)) l.source l.at l.more l.last l.count l.hops

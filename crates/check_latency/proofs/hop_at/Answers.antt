@@ -36,7 +36,7 @@ taken_at-taken-requires c =
     let c8 = c in
     let s = c in
     let f = c3.one_read-found.ensures s.requires.0 (indexes s.requires.1) in
-    one-stands _ _ s.requires.1.declares _ _ _ (sym f ∙ c.in-At.is)
+    one-stands _ _ s.requires.1.declares _ _ _ (sym f ∙ c.in-Some.is)
 
 pub returns : goal.returns
 unfolding settled
@@ -54,7 +54,7 @@ returns c =
     let f = c8.one_read-found.ensures p (indexes k.stands) in
     let ρ : Read = read_among a.w (body_reads (signal_at p a.r).body) in
     let taken : ◌≡◌ {A = Taken} t.result (record { kind = ρ.kind; operands = ρ.operands }) =
-    t.ensures.is ρ.kind ρ.operands (one-spelled _ p k.stands.declares _ _ _ (sym f ∙ c6.in-At.is)) in
+    t.ensures.is ρ.kind ρ.operands (one-spelled _ p k.stands.declares _ _ _ (sym f ∙ c6.in-Some.is)) in
     let w : rate_in read.result ≡ rate_of p s ρ.operands.signal =
     ap rate_in read.ensures ∙ rate-at k a.w lw ∙
     ap (rate_of p s) (sym (read-signal a.w (body_reads (signal_at p a.r).body) (omega (arith, n)))) in

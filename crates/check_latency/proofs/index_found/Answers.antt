@@ -6,4 +6,4 @@ use borrow.Author.Rules.{rules}
 use Rattle.check_latency.proofs.index_found.Goals as goal
 
 pub overflow_cast-result : goal.overflow_cast-result
-overflow_cast-result c = omega (arith, subst ByteFound c.in-At.is c.requires)
+overflow_cast-result c = omega (arith, subst ByteFound c.in-Some.is c.requires)

@@ -1,4 +1,5 @@
 -- `check_latency::judge_chains` meets its contract. Assumes nothing.
+use Rattle.std.specs.Prelude.{Ok, Err}
 use Prim.Native.Nat.{ℕ, ◌-◌, ◌<◌}
 use mathlib.Core.Bool.{cond}
 use mathlib.Core.List.{List, [], ◌∷◌}
@@ -17,7 +18,6 @@ use Rattle.text_program.proofs.ByIndex.{few-chains}
 use Rattle.text_program.proofs.InTurn.{Left, check-starts, check-passes, check-refuses, check-ends}
 use Rattle.text_program.proofs.Rising.{chain_places, rising-program}
 use Rattle.check_links.proofs.Linking.{lat-at, lat-judged}
-use Rattle.basics.specs.declared.Judged.TheVariants as Judged
 use Rattle.check_latency.specs.Timely.{Timed}
 use Rattle.check_latency.proofs.judge_chains.Invariants.{untimely, Rest}
 use Rattle.check_latency.proofs.judge_chains.Goals as goal
@@ -46,7 +46,7 @@ returns-then-not-keeps_time c =
     λ p s t.
     let k = t.joined.known in
     let lt : l.chain < length p.chains = omega (arith, b.loop-chain-test.true, k.stands.tables-are.counts.chains-are) in
-    let r = ap (λ n. Judged.Refused (fault 16 n)) (c.from_entry.ensures.0 ∙ k.stands.tables-are.starts l.chain lt) in
+    let r = c.refuse.ensures ∙ ap (λ n. Err (fault 16 n)) (c.from_entry.ensures.0 ∙ k.stands.tables-are.starts l.chain lt) in
     check-refuses _ _ _ _ l.chain no_chain lt (l.invariant p s t) _
     (r ∙ lat-judged (fault 16 (chain_at p l.chain).place) _ _
     (sym (d.keeps_time.ensures p s t) ∙ d.if-not-keeps_time.true))
@@ -60,7 +60,7 @@ loop-chain-preserved c =
     let n = t.joined.known.stands.tables-are.counts.chains-are in
     let lt : l.chain < length p.chains = omega (arith, b.loop-chain-test.true, n) in
     subst (Rest p s _) (omega arith)
-    (check-passes _ _ _ _ l.chain no_chain lt (l.invariant p s t) Judged.Fine
+    (check-passes _ _ _ _ l.chain no_chain lt (l.invariant p s t) (Ok tt)
     (lat-judged (fault 16 (chain_at p l.chain).place) _ _
     (sym (c.keeps_time.ensures p s t) ∙ c.if-not-keeps_time.false)) refl)
 
@@ -76,9 +76,3 @@ offset_bounds-starts-chain c = omega (arith, few (goal.at.offset_bounds-starts-c
 
 pub bounds-starts-chain : goal.bounds-starts-chain
 bounds-starts-chain c = few (goal.at.bounds-starts-chain c).In-loop-chain
-
-pub overflow_add-chain : goal.overflow_add-chain
-overflow_add-chain c = omega (arith, few (goal.at.overflow_add-chain c).In-loop-chain)
-
-pub loop-chain-smaller : goal.loop-chain-smaller
-loop-chain-smaller c = omega (arith, c.loop-chain-test.true)

@@ -17,7 +17,6 @@ use Rattle.text_program.proofs.ByIndex.{few-chains}
 use Rattle.text_program.proofs.InTurn.{Left, check-starts, check-passes, check-refuses, check-ends}
 use Rattle.text_program.proofs.Rising.{chain_places, rising-program}
 use Rattle.check_links.proofs.Linking.{lat-at, lat-judged}
-use Rattle.basics.specs.declared.Judged.TheVariants as Judged
 use Rattle.check_latency.specs.Timely.{Timed}
 use Rattle.check_latency.proofs.judge_chains.Given as goal
 
@@ -32,6 +31,3 @@ Rest p s h x = Left chain_places (untimely p s h) (timely p s h) p.chains x
 abbrev pub invariant-loop-chain : goal.invariant-loop-chain
 invariant-loop-chain l =
     (p : Program) (s : Schedule) → Timed l.text l.reads l.tables l.periods l.phases l.h p s → Rest p s l.h l.chain
-
-abbrev pub decreases-loop-chain : goal.decreases-loop-chain
-decreases-loop-chain l = l.tables.chains - l.chain

@@ -1,4 +1,5 @@
 -- `check_links::check_links` meets its contract. Assumes nothing.
+use Rattle.std.specs.Prelude.{Result, Ok, Err}
 use Prim.Native.Nat.{ℕ, ◌-◌, ◌<◌}
 use mathlib.Core.Bool.{cond}
 use mathlib.Core.List.{List, [], ◌∷◌}
@@ -13,22 +14,20 @@ use Rattle.model.specs.Rules.Rates.{is_linked, linked}
 use Rattle.model.specs.Rules.Search.{join_from}
 use Rattle.model.specs.declared.Fault.{Fault}
 use Rattle.basics.specs.Judgement.{judgement_of}
-use Rattle.basics.specs.declared.Judged.{Judged}
 use Rattle.text_program.specs.Tables.{no_chain, chain_at, Stands}
 use Rattle.text_program.proofs.ByIndex.{few-chains}
 use Rattle.text_program.proofs.InTurn.{Left, check-starts, check-passes, check-refuses, check-ends}
 use Rattle.text_program.proofs.Rising.{chain_places, rising-program}
-use Rattle.basics.specs.declared.Judged.TheVariants as Judged
 use Rattle.check_links.proofs.Linking.{lat-at, lat-judged}
 use Rattle.check_links.proofs.check_links.Invariants.{unlinked, Rest}
 use Rattle.check_links.proofs.check_links.Goals as goal
 
 -- A program without chains has none that is wrong.
-unchained : (p : Program) (n : ℕ) → length p.chains ≡ n → n ≡ 0 → Judged.Fine ≡ judgement_of (linked p)
+unchained : (p : Program) (n : ℕ) → length p.chains ≡ n → n ≡ 0 → (Ok tt) ≡ judgement_of (linked p)
 unfolding linked join_from lowest judgement_of
 unchained p n e z = go p.chains refl
   where
-    go : (cs : List Chain) → p.chains ≡ cs → Judged.Fine ≡ judgement_of (linked p)
+    go : (cs : List Chain) → p.chains ≡ cs → (Ok tt) ≡ judgement_of (linked p)
     go [] q = rw q refl
     go (c ∷ cs) q = absurd (omega (arith, e, z, ap length q))
 
@@ -52,17 +51,11 @@ returns-then-not-is_linked c =
     λ p q.
     let lt : l.chain < length p.chains = omega (arith, b.loop-chain-test.true, q.tables-are.counts.chains-are) in
     let r = c.refuse.ensures ∙
-    ap (λ n. Judged.Refused (fault 10 n)) (c.from_entry.ensures.0 ∙ q.tables-are.starts l.chain lt) in
+    ap (λ n. Err (fault 10 n)) (c.from_entry.ensures.0 ∙ q.tables-are.starts l.chain lt) in
     check-refuses _ _ _ _ l.chain no_chain lt (l.invariant p q) _
     (r ∙ lat-judged (fault 10 (chain_at p l.chain).place) _ _
     (sym (b.is_linked.ensures p q) ∙ d.if-not-is_linked.true))
     (lat-at 10 (λ k. is_linked p k.links)) _ r
-
-pub overflow_add-chain : goal.overflow_add-chain
-overflow_add-chain c =
-    let c5 = c in
-    let s = c5.requires in
-    omega (arith, c.loop-chain-test.true, few-chains s.1)
 
 pub loop-chain-preserved : goal.loop-chain-preserved
 loop-chain-preserved c =
@@ -71,7 +64,7 @@ loop-chain-preserved c =
     λ p q.
     let lt : l.chain < length p.chains = omega (arith, b.loop-chain-test.true, q.tables-are.counts.chains-are) in
     subst (Rest p) (omega arith)
-    (check-passes _ _ _ _ l.chain no_chain lt (l.invariant p q) Judged.Fine
+    (check-passes _ _ _ _ l.chain no_chain lt (l.invariant p q) (Ok tt)
     (lat-judged (fault 10 (chain_at p l.chain).place) _ _
     (sym (b.is_linked.ensures p q) ∙ c.if-not-is_linked.false)) refl)
 
@@ -82,9 +75,6 @@ returns c =
 
 pub offset_bounds-starts-chain : goal.offset_bounds-starts-chain
 offset_bounds-starts-chain c = omega (arith, c.loop-chain-test.true, few-chains c.requires.1)
-
-pub loop-chain-smaller : goal.loop-chain-smaller
-loop-chain-smaller c = omega (arith, c.loop-chain-test.true)
 
 pub bounds-starts-chain : goal.bounds-starts-chain
 bounds-starts-chain c = omega (arith, c.loop-chain-test.true, few-chains c.requires.1)

@@ -1,4 +1,5 @@
 -- `check_links::check_links` meets its contract. Assumes nothing.
+use Rattle.std.specs.Prelude.{Result}
 use Prim.Native.Nat.{ℕ, ◌-◌, ◌<◌}
 use mathlib.Core.Bool.{cond}
 use mathlib.Core.List.{List, [], ◌∷◌}
@@ -13,12 +14,10 @@ use Rattle.model.specs.Rules.Rates.{is_linked, linked}
 use Rattle.model.specs.Rules.Search.{join_from}
 use Rattle.model.specs.declared.Fault.{Fault}
 use Rattle.basics.specs.Judgement.{judgement_of}
-use Rattle.basics.specs.declared.Judged.{Judged}
 use Rattle.text_program.specs.Tables.{no_chain, chain_at, Stands}
 use Rattle.text_program.proofs.ByIndex.{few-chains}
 use Rattle.text_program.proofs.InTurn.{Left, check-starts, check-passes, check-refuses, check-ends}
 use Rattle.text_program.proofs.Rising.{chain_places, rising-program}
-use Rattle.basics.specs.declared.Judged.TheVariants as Judged
 use Rattle.check_links.proofs.Linking.{lat-at, lat-judged}
 use Rattle.check_links.proofs.check_links.Given as goal
 
@@ -33,6 +32,3 @@ Rest p x = Left chain_places (unlinked p) (linked p) p.chains x
 abbrev pub invariant-loop-chain : goal.invariant-loop-chain
 invariant-loop-chain l =
     (p : Program) → Stands l.text l.reads l.tables p → Rest p l.chain
-
-abbrev pub decreases-loop-chain : goal.decreases-loop-chain
-decreases-loop-chain l = l.tables.chains - l.chain

@@ -17,35 +17,35 @@ use Rattle.check_links.proofs.Linking.{
   chain-begins,
 }
 use Rattle.check_links.proofs.is_linked.Goals as goal
-use Rattle.check_links.proofs.is_linked.Goals.{After-from_byte-left, In-loop-left, Start}
+use Rattle.check_links.proofs.is_linked.Goals.{After-from_byte-links, In-loop-more, Start}
 
-abbrev begun : After-from_byte-left → Start
-begun c = (goal.at.After-from_byte-left c).Start
+abbrev begun : After-from_byte-links → Start
+begun c = (goal.at.After-from_byte-links c).Start
 
 -- the two links at hand lie within the text
-inside : (c : In-loop-left) →
-    c.loop-left.at + 4 ≤ length (begun (goal.at.In-loop-left c).After-from_byte-left).args.text.now
+inside : (c : In-loop-more) →
+    c.loop-more.at + 4 ≤ length (begun (goal.at.In-loop-more c).After-from_byte-links).args.text.now
 inside c =
-    let r = (begun (goal.at.In-loop-left c).After-from_byte-left).requires.0 in
-    link-inside _ _ _ _ _ (c.loop-left.invariant r.0 r.1) c.loop-left-test.true
+    let r = (begun (goal.at.In-loop-more c).After-from_byte-links).requires.0 in
+    link-inside _ _ _ _ _ (c.loop-more.invariant r.0 r.1) c.loop-more-test.true
 
 pub overflow_add-at : goal.overflow_add-at
 overflow_add-at c =
     let s = c in
     omega (arith, c.from_entry.ensures.0, chain-inside s.requires.0.1 _ s.requires.1)
 
-pub loop-left-init : goal.loop-left-init
-loop-left-init c =
+pub loop-more-init : goal.loop-more-init
+loop-more-init c =
     λ p q.
-    rw (c.in_program.ensures, c.from_entry.ensures.0, c.from_byte-left.ensures.0)
+    rw (c.in_program.ensures, c.from_entry.ensures.0, c.from_byte-links.ensures.0)
     (chain-begins q _ (begun c).requires.1)
 
 pub bounds-text-second : goal.bounds-text-second
-bounds-text-second c = omega (arith, inside (goal.at.bounds-text-second c).In-loop-left)
+bounds-text-second c = omega (arith, inside (goal.at.bounds-text-second c).In-loop-more)
 
 pub one_read-read-requires : goal.one_read-read-requires
 one_read-read-requires c =
-    let c6 = (goal.at.one_read-read-requires c).After-from_byte-left in
+    let c6 = (goal.at.one_read-read-requires c).After-from_byte-links in
     let s = c in
     let k = s.requires.0.1 in
     (few-signals _ _ _ k.declares k.tables-are, (s.requires.0.0, indexes k))
@@ -55,31 +55,25 @@ returns-in_default c =
     let c6 = c in
     let c7 = c in
     let b = c in
-    let two = c6.in_program-in-loop-left.ensures in
+    let two = c6.in_program-in-loop-more.ensures in
     λ p q.
     let r = rw two at (c.one_read-read.ensures p (indexes q)) in
-    sym (link-broken _ _ _ _ _ (b.loop-left.invariant p q) b.loop-left-test.true
+    sym (link-broken _ _ _ _ _ (b.loop-more.invariant p q) b.loop-more-test.true
     (found_none _ _ (sym r ∙ c.in_default.is)))
 
-pub overflow_sub-left : goal.overflow_sub-left
-overflow_sub-left c = omega (arith, c.loop-left-test.true)
-
-pub loop-left-smaller : goal.loop-left-smaller
-loop-left-smaller c = omega (arith, c.loop-left-test.true)
-
-pub loop-left-preserved : goal.loop-left-preserved
-loop-left-preserved c =
+pub loop-more-preserved : goal.loop-more-preserved
+loop-more-preserved c =
     let c6 = c in
     let c7 = c in
     let b = c in
-    let two = c6.in_program-in-loop-left.ensures in
+    let two = c6.in_program-in-loop-more.ensures in
     λ p q.
     let r = rw two at (c.one_read-read.ensures p (indexes q)) in
     rw two
-    (link_on _ _ _ _ _ (b.loop-left.invariant p q) b.loop-left-test.true (found-one _ _ _ (sym r ∙ c.in-At.is)).0)
+    (link_on _ _ _ _ _ (b.loop-more.invariant p q) b.loop-more-test.true (found-one _ _ _ (sym r ∙ c.in-Some.is)).0)
 
 pub returns : goal.returns
-returns c = λ p q. sym (link-over _ _ _ _ _ (c.loop-left.invariant p q) (omega (arith, c.loop-left-test.false)))
+returns c = λ p q. sym (link-over _ _ _ _ _ (c.loop-more.invariant p q) (omega (arith, c.loop-more-test.false)))
 
 pub offset_bounds-starts-chain : goal.offset_bounds-starts-chain
 offset_bounds-starts-chain c = omega (arith, c.requires.1, few-chains c.requires.0.1)
@@ -91,13 +85,13 @@ pub bounds-lengths-chain : goal.bounds-lengths-chain
 bounds-lengths-chain c = omega (arith, c.requires.1, few-chains c.requires.0.1)
 
 pub overflow_add-second : goal.overflow_add-second
-overflow_add-second c = omega (arith, inside (goal.at.overflow_add-second c).In-loop-left)
+overflow_add-second c = omega (arith, inside (goal.at.overflow_add-second c).In-loop-more)
 
 pub overflow_add-before : goal.overflow_add-before
-overflow_add-before c = omega (arith, inside (goal.at.overflow_add-before c).In-loop-left)
+overflow_add-before c = omega (arith, inside (goal.at.overflow_add-before c).In-loop-more)
 
 pub bounds-text-at : goal.bounds-text-at
-bounds-text-at c = omega (arith, inside (goal.at.bounds-text-at c).In-loop-left)
+bounds-text-at c = omega (arith, inside (goal.at.bounds-text-at c).In-loop-more)
 
 pub overflow_add-signal : goal.overflow_add-signal
-overflow_add-signal c = omega (arith, inside (goal.at.overflow_add-signal c).In-loop-left)
+overflow_add-signal c = omega (arith, inside (goal.at.overflow_add-signal c).In-loop-more)

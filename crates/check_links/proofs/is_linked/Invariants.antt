@@ -18,9 +18,6 @@ use Rattle.check_links.proofs.Linking.{
 }
 use Rattle.check_links.proofs.is_linked.Given as goal
 
-abbrev pub invariant-loop-left : goal.invariant-loop-left
-invariant-loop-left l =
-    (p : Program) → Stands l.text l.reads l.tables p → LinksLeft l.text p (chain_at p l.chain).links l.at l.left
-
-abbrev pub decreases-loop-left : goal.decreases-loop-left
-decreases-loop-left l = l.left
+abbrev pub invariant-loop-more : goal.invariant-loop-more
+invariant-loop-more l =
+    (p : Program) → Stands l.text l.reads l.tables p → LinksLeft l.text p (chain_at p l.chain).links l.at l.more

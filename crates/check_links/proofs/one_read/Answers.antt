@@ -1,4 +1,5 @@
 -- `check_links::one_read` meets its contract. Assumes nothing.
+use Rattle.std.specs.Prelude.{Some, None}
 use Prim.Native.Nat.{ℕ, ◌+◌, ◌-◌, ◌≤◌, ◌<◌}
 use mathlib.Core.List.{List}
 use mathlib.Core.Path.{◌≡◌, subst}
@@ -6,7 +7,6 @@ use native.Mathlib.Omega.{arith}
 use lib.ListN.{length, get_or}
 use borrow.Author.Rules.{rules}
 use Rattle.model.specs.Rules.Program.{Program, signal_at, body_reads}
-use Rattle.model.specs.declared.Found.TheVariants.{At, Nowhere}
 use Rattle.text_command.specs.Operator.{ReadStands}
 use Rattle.text_program.specs.Tables.{Indexes, Indexed}
 use Rattle.text_program.proofs.ByIndex.{in_table, read-stands, rises-at}
@@ -147,9 +147,6 @@ overflow_add-many c =
     let b = c in
     omega (arith, b.loop-i.invariant.2, b.loop-i-test.true, b.from_entry-end.ensures.1)
 
-pub overflow_add-i : goal.overflow_add-i
-overflow_add-i c = omega (arith, (b c).loop-i-test.true, (b c).from_entry-end.ensures.1)
-
 pub loop-i-preserved : goal.loop-i-preserved
 loop-i-preserved c =
     let v = (b c).loop-i.invariant in (
@@ -163,14 +160,14 @@ pub returns-then-many-ne1 : goal.returns-then-many-ne1
 returns-then-many-ne1 c =
     let d = (goal.at.returns-then-many-ne1 c).After-loop-i in
     λ p e.
-    subst (λ (m : ℕ). Nowhere ≡ one_read (w (o d)) (body_reads (signal_at p m).body)) (o d).from_byte-index.ensures.0
+    subst (λ (m : ℕ). None ≡ one_read (w (o d)) (body_reads (signal_at p m).body)) (o d).from_byte-index.ensures.0
     (none_found _ _ _ (all_seen d p e) (d.loop-i.invariant.3 p e) (λ z. c.if-many-ne1.true z))
 
 pub returns : goal.returns
 returns c =
     let d = (goal.at.returns c).After-loop-i in
     λ p e.
-    subst (λ (m : ℕ). At d.loop-i.found ≡ one_read (w (o d)) (body_reads (signal_at p m).body))
+    subst (λ (m : ℕ). Some d.loop-i.found ≡ one_read (w (o d)) (body_reads (signal_at p m).body))
     (o d).from_byte-index.ensures.0
     (one_found _ _ _ (all_seen d p e) (d.loop-i.invariant.3 p e) (omega (arith, c.if-many-ne1.false)))
 
@@ -191,6 +188,3 @@ bounds-firsts-index-2 c = omega (arith, below (goal.at.bounds-firsts-index-2 c).
 
 pub bounds-reads-i : goal.bounds-reads-i
 bounds-reads-i c = here (goal.at.bounds-reads-i c).In-loop-i
-
-pub loop-i-smaller : goal.loop-i-smaller
-loop-i-smaller c = omega (arith, (b c).loop-i-test.true)

@@ -1,4 +1,5 @@
 -- `check_links::one_read` meets its contract. Assumes nothing.
+use Rattle.std.specs.Prelude.{Some, None}
 use Prim.Native.Nat.{ℕ, ◌+◌, ◌-◌, ◌≤◌, ◌<◌}
 use mathlib.Core.List.{List}
 use mathlib.Core.Logic.{⊎_elim}
@@ -7,7 +8,6 @@ use native.Mathlib.Omega.{arith}
 use lib.ListN.{length, get_or}
 use borrow.Author.Rules.{rules}
 use Rattle.model.specs.Rules.Program.{Program, signal_at, body_reads}
-use Rattle.model.specs.declared.Found.TheVariants.{At, Nowhere}
 use Rattle.text_command.specs.Operator.{ReadStands}
 use Rattle.text_program.specs.Tables.{Indexes, Indexed}
 use Rattle.text_program.proofs.ByIndex.{in_table, read-stands, rises-at}
@@ -31,6 +31,3 @@ invariant-loop-i l =
     (l.first ≤ l.i) × (l.i ≤ l.end) × (l.many ≤ l.i) ×
     ((p : Program) → Indexes l.text l.reads l.firsts l.count p →
     Searched l.before (body_reads (signal_at p l.index).body) (l.i - l.first) l.many l.found)
-
-abbrev pub decreases-loop-i : goal.decreases-loop-i
-decreases-loop-i l = l.end - l.i

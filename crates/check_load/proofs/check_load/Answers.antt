@@ -1,14 +1,7 @@
 -- `check_load::check_load` meets its contract. Assumes nothing.
-use borrow.Author.Tests.{not-true}
 use Rattle.text_schedule.proofs.Arranged.{short-hypercycle, phases-below}
 use Rattle.text_program.proofs.ByIndex.{few-signals}
-use Rattle.check_load.proofs.Loads.{judged-uncapped}
 use Rattle.check_load.proofs.check_load.Goals as goal
-
-pub returns-then-not-tables : goal.returns-then-not-tables
-returns-then-not-tables c text reads p s g =
-    let a = c.args in
-    judged-uncapped p s _ a.tables.limit a.tables.capped (not-true _ c.if-not-tables.true) g.stands.tables-are.cap
 
 pub judge_load-requires : goal.judge_load-requires
 judge_load-requires c =

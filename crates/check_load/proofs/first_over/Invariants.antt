@@ -15,6 +15,3 @@ invariant-loop-cycle l =
     (l.hypercycle ≤ 240) ×
     (first_below l.hypercycle (λ c. ltb l.limit (get_or l.loads c 0)) ≡
     first_from l.cycle (l.hypercycle - l.cycle) (λ c. ltb l.limit (get_or l.loads c 0)))
-
-abbrev pub decreases-loop-cycle : goal.decreases-loop-cycle
-decreases-loop-cycle l = l.hypercycle - l.cycle

@@ -13,6 +13,3 @@ invariant-loop-x l =
     (l.x ≤ l.signals) × (l.signals ≤ 64) × (l.hypercycle ≤ 240) × ((y : ℕ) → y < l.signals → get_or l.phases y 0 < get_or l.periods y 0) ×
     (length l.loads ≡ 240) × ((c : ℕ) → c < l.hypercycle → get_or l.loads c 0 ≤ l.x * 65535) ×
     LoadsOf l.periods l.phases l.weights l.x l.hypercycle l.loads
-
-abbrev pub decreases-loop-x : goal.decreases-loop-x
-decreases-loop-x l = l.signals - l.x

@@ -1,87 +1,74 @@
 -- `check_pair::check_program` meets its contract. Assumes nothing.
-use mathlib.Core.Path.{◌≡◌, refl, sym, ap, ◌∙◌}
-use borrow.Author.Rules.{rules}
-use Rattle.model.specs.Rules.Outcome.{accepted}
+use mathlib.Core.Path.{◌≡◌, sym, ap, ◌∙◌}
+use Rattle.model.specs.Rules.Cover.{tabled}
+use Rattle.model.specs.Rules.Outcome.{yielded_of, accepted}
 use Rattle.model.specs.Rules.Program.{Program}
-use Rattle.model.specs.Rules.Rates.{declared_and_rated, hypercycle}
-use Rattle.text_program.specs.Tables.{TablesOf, Stands}
+use Rattle.model.specs.Rules.Rates.{declared_and_rated, hypercycle, linked}
+use Rattle.model.proofs.Basics.Outcomes.{accepted-then, refused-then}
+use Rattle.basics.proofs.Judgements.{judgement-fine, judgement-refused, handed-on}
+use Rattle.text_program.specs.Tables.{Stands}
 use Rattle.text_program.proofs.ByIndex.{few-signals}
 use Rattle.check_pair.specs.Groups.{rates_of}
-use Rattle.basics.proofs.Judgements.{
-  judgement-fine,
-  judgement-refused,
-  answers-fine,
-  answers-refused,
-  answers-then,
-  answers-stop,
-  answers-last,
-  judgement-answers,
-}
 use Rattle.check_pair.proofs.check_program.Goals as goal
-use Rattle.check_pair.proofs.check_program.Goals.{After-check_hypercycle-cycles, In-Fine, In-Fine-common, Start}
+use Rattle.check_pair.proofs.check_program.Goals.{In_ok-check_rates, In_ok-hypercycle, In_ok-check_links}
 
--- where 7 and 8 are passed
-module _ (e : In-Fine) where
-  abbrev start : Start
-  start = (goal.at.In-Fine e).Start
+-- where 7 and 8 are passed, 9, and 10
+rated : (e : In_ok-check_rates) (p : Program) → Stands e.args.text.now e.args.reads.now e.args.tables p →
+    declared_and_rated p ≡ accepted tt
+rated e p s = judgement-fine _ _ (e.check_rates.ensures p s) e.in_ok-check_rates.was
 
-  rated : (p : Program) → Stands start.args.text.now start.args.reads.now start.args.tables p →
-      declared_and_rated p ≡ accepted tt
-  rated p q = judgement-fine _ _ (e.check_rates-rates.ensures p q) e.in-Fine.is
+common : (e : In_ok-hypercycle) (p : Program) → Stands e.args.text.now e.args.reads.now e.args.tables p →
+    hypercycle p ≡ accepted e.in_ok-hypercycle.hypercycle
+common e p s =
+    let t = s.tables-are in
+    sym (e.check_hypercycle.ensures p t.counts.signals-are t.periods) ∙ ap yielded_of e.in_ok-hypercycle.was
 
--- and 9
-module _ (e : In-Fine-common) where
-  abbrev cycles : After-check_hypercycle-cycles
-  cycles = (goal.at.In-Fine-common e).After-check_hypercycle-cycles
+joined : (e : In_ok-check_links) (p : Program) → Stands e.args.text.now e.args.reads.now e.args.tables p → linked p ≡ accepted tt
+joined e p s = judgement-fine _ _ (e.check_links.ensures p s) e.in_ok-check_links.was
 
-  abbrev passed : In-Fine
-  passed = (goal.at.In-Fine-common e).In-Fine
-
-  common : (p : Program) → TablesOf p (start passed).args.tables →
-      hypercycle p ≡ accepted cycles.check_hypercycle-cycles.result.hypercycle
-  common p t =
-      let a = answers-fine _ _ _ (cycles.check_hypercycle-cycles.ensures p t.counts.signals-are t.periods)
-      e.in-Fine-common.is in
-      a.1 ∙ ap accepted (sym a.2)
-
-pub returns-in_default : goal.returns-in_default
-unfolding rates_of
-returns-in_default c p e =
-    let d = c.check_rates-rates.ensures p e in
-    answers-stop _ _ _ _ _ (judgement-refused _ _ _ d c.in_default.is) (c.unrated.ensures ∙ c.in_default.is)
-
-pub check_hypercycle-cycles-requires : goal.check_hypercycle-cycles-requires
-check_hypercycle-cycles-requires c =
-    let known = (start (goal.at.check_hypercycle-cycles-requires c).In-Fine).requires.1 in few-signals _ _ _ known.declares known.tables-are
-
-pub returns-in_default-common : goal.returns-in_default-common
-unfolding rates_of
-returns-in_default-common c p e =
-    let told = c.in_default-common.is in
-    let h = c in
-    answers-then _ _ _ _ _ (rated (goal.at.returns-in_default-common h).In-Fine p e)
-    (answers-stop _ _ _ _ _
-    (answers-refused _ _ _ _ (h.check_hypercycle-cycles.ensures p e.tables-are.counts.signals-are e.tables-are.periods)
-    told)
-    (c.unrated-in_default-common.ensures ∙ told))
-
-pub returns-in_default-links : goal.returns-in_default-links
-unfolding rates_of
-returns-in_default-links c p e =
-    let told = c.in_default-links.is in
-    let l = c in
-    answers-then _ _ _ _ _ (rated (goal.at.returns-in_default-links l).In-Fine p e)
-    (answers-then _ _ _ _ _ (common (goal.at.returns-in_default-links l).In-Fine-common p e.tables-are)
-    (answers-stop _ _ _ _ _ (judgement-refused _ _ _ (l.check_links-links.ensures p e) told) (c.unrated-in_default-links.ensures ∙ told)))
+pub check_hypercycle-requires : goal.check_hypercycle-requires
+check_hypercycle-requires c = let s = c.requires.1 in few-signals _ _ _ s.declares s.tables-are
 
 pub check_table-requires : goal.check_table-requires
-check_table-requires c = (_, (start (goal.at.check_table-requires c).In-Fine).requires)
+check_table-requires c = (_, c.requires)
+
+pub returns-in_err-check_rates : goal.returns-in_err-check_rates
+unfolding rates_of
+returns-in_err-check_rates c p s =
+    ap yielded_of (handed-on _ c.from_residual.ensures.1) ∙
+    sym (refused-then _ _ _ (judgement-refused _ _ _ (c.check_rates.ensures p s) c.in_err-check_rates.was))
+
+pub returns-in_err-hypercycle : goal.returns-in_err-hypercycle
+unfolding rates_of
+returns-in_err-hypercycle c p s =
+    let t = s.tables-are in
+    ap yielded_of (handed-on _ c.from_residual-in_err-hypercycle.ensures.1) ∙
+    sym (accepted-then _ _ _ (rated (goal.at.returns-in_err-hypercycle c).In_ok-check_rates p s) ∙
+    refused-then _ _ _
+    (sym (c.check_hypercycle.ensures p t.counts.signals-are t.periods) ∙ ap yielded_of c.in_err-hypercycle.was))
+
+pub returns-in_err-check_links : goal.returns-in_err-check_links
+unfolding rates_of
+returns-in_err-check_links c p s =
+    ap yielded_of (handed-on _ c.from_residual-in_err-check_links.ensures.1) ∙
+    sym (accepted-then _ _ _ (rated (goal.at.returns-in_err-check_links c).In_ok-check_rates p s) ∙
+    accepted-then _ _ _ (common (goal.at.returns-in_err-check_links c).In_ok-hypercycle p s) ∙
+    refused-then _ _ _ (judgement-refused _ _ _ (c.check_links.ensures p s) c.in_err-check_links.was))
+
+pub returns-in_err-check_table : goal.returns-in_err-check_table
+unfolding rates_of
+returns-in_err-check_table c p s =
+    ap yielded_of (handed-on _ c.from_residual-in_err-check_table.ensures.1) ∙
+    sym (accepted-then _ _ _ (rated (goal.at.returns-in_err-check_table c).In_ok-check_rates p s) ∙
+    accepted-then _ _ _ (common (goal.at.returns-in_err-check_table c).In_ok-hypercycle p s) ∙
+    accepted-then _ _ _ (joined (goal.at.returns-in_err-check_table c).In_ok-check_links p s) ∙
+    refused-then _ _ _ (judgement-refused _ _ _ (c.check_table.ensures p _ s) c.in_err-check_table.was))
 
 pub returns : goal.returns
 unfolding rates_of
-returns c p e =
-    let l = c in
-    answers-then _ _ _ _ _ (rated (goal.at.returns l).In-Fine p e)
-    (answers-then _ _ _ _ _ (common (goal.at.returns l).In-Fine-common p e.tables-are)
-    (answers-then _ _ _ _ _ (judgement-fine _ _ (l.check_links-links.ensures p e) c.in-Fine-links.is)
-    (answers-last _ _ _ _ (judgement-answers _ _ _ (c.check_table.ensures p _ e) (λ _. refl)))))
+returns c p s =
+    let covered : tabled p ≡ accepted tt = judgement-fine _ _ (c.check_table.ensures p _ s) c.in_ok-check_table.was in
+    sym (accepted-then _ _ _ (rated (goal.at.returns c).In_ok-check_rates p s) ∙
+    accepted-then _ _ _ (common (goal.at.returns c).In_ok-hypercycle p s) ∙
+    accepted-then _ _ _ (joined (goal.at.returns c).In_ok-check_links p s) ∙
+    accepted-then _ _ _ covered)

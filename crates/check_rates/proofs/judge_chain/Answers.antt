@@ -1,10 +1,11 @@
 -- `check_rates::judge_chain` meets its contract. Assumes nothing.
 use Prim.Native.Nat.{ℕ, ◌+◌, ◌*◌, ◌-◌, ◌≤◌, ◌<◌}
 use mathlib.Core.List.{List, [], ◌∷◌}
-use mathlib.Core.Path.{◌≡◌, refl, ap, subst}
+use mathlib.Core.Path.{◌≡◌, refl, ap, subst, sym, ◌∙◌}
 use native.Mathlib.Omega.{arith}
 use lib.ListN.{length, get_or}
 use borrow.Author.Rules.{rules}
+use Rattle.basics.proofs.Judgements.{handed-on}
 use Rattle.model.specs.Rules.Outcome.{lowest}
 use Rattle.model.specs.Rules.Program.{Program, Link}
 use Rattle.model.specs.Rules.Rates.{link_faults}
@@ -85,23 +86,17 @@ bounds-text-at c =
     let s = (goal.at.bounds-text-at c).After-in_program-in-loop-i in
     omega (arith, stands s, ends s)
 
-pub returns-in_default : goal.returns-in_default
-returns-in_default c =
+pub returns-in_err-judge_rate : goal.returns-in_err-judge_rate
+returns-in_err-judge_rate c =
     let j = c in
-    let s = (goal.at.returns-in_default c).After-in_program-in-loop-i in
-    let a = (goal.at.returns-in_default c).Start in
+    let s = (goal.at.returns-in_err-judge_rate c).After-in_program-in-loop-i in
+    let a = (goal.at.returns-in_err-judge_rate c).Start in
     let lt = within s in
     λ p reads e.
-    check-refuses _ _ _ _ (i s) no_link (link-seen e (x a) a.requires.1 (i s) lt)
+    handed-on _ c.from_residual.ensures.1 ∙ sym c.in_err-judge_rate.was ∙ check-refuses _ _ _ _ (i s) no_link (link-seen e (x a) a.requires.1 (i s) lt)
     (s.loop-i.invariant.1 p reads e)
     _ (one_link e (x a) a.requires.1 (i s) lt _ _ _ (stands s) j.from_byte-signal.ensures.0
-    j.judge_rate-judged.ensures) (link-at-place p) _ c.in_default.is
-
-pub overflow_add-i : goal.overflow_add-i
-overflow_add-i c = let s = (goal.at.overflow_add-i c).After-in_program-in-loop-i in omega (arith, ends s)
-
-pub loop-i-smaller : goal.loop-i-smaller
-loop-i-smaller c = omega (arith, c.loop-i-test.true)
+    j.judge_rate.ensures) (link-at-place p) _ c.in_err-judge_rate.was
 
 pub loop-i-preserved : goal.loop-i-preserved
 loop-i-preserved c =
@@ -114,7 +109,7 @@ loop-i-preserved c =
           subst (Rest p (x a)) (omega arith)
           (check-passes _ _ _ _ (i s) no_link (link-seen e (x a) a.requires.1 (i s) lt)
           (s.loop-i.invariant.1 p reads e) _ (one_link e (x a) a.requires.1 (i s) lt _ _ _ (stands s)
-          j.from_byte-signal.ensures.0 j.judge_rate-judged.ensures) c.in-Fine.is),
+          j.from_byte-signal.ensures.0 j.judge_rate.ensures) c.in_ok-judge_rate.was),
     )
 
 pub returns : goal.returns

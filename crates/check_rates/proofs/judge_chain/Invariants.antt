@@ -24,6 +24,3 @@ Rest p x j =
 abbrev pub invariant-loop-i : goal.invariant-loop-i
 invariant-loop-i l =
     (l.i ≤ l.links) × ((p : Program) (reads : List ℕ) → Stands l.text reads l.tables p → Rest p l.chain l.i)
-
-abbrev pub decreases-loop-i : goal.decreases-loop-i
-decreases-loop-i l = l.links - l.i

@@ -1,9 +1,10 @@
 -- `check_rates::judge_links` meets its contract. Assumes nothing.
 use Prim.Native.Nat.{ℕ, ◌-◌, ◌≤◌}
 use mathlib.Core.List.{List}
-use mathlib.Core.Path.{refl, subst}
+use mathlib.Core.Path.{refl, subst, sym, ◌∙◌}
 use native.Mathlib.Omega.{arith}
 use borrow.Author.Rules.{rules}
+use Rattle.basics.proofs.Judgements.{handed-on}
 use Rattle.model.specs.Rules.Outcome.{lowest}
 use Rattle.model.specs.Rules.Program.{Program}
 use Rattle.text_program.specs.Tables.{no_chain, Stands}
@@ -21,24 +22,16 @@ loop-chain-init c = (
   λ p reads e. let h = rising-program _ p e.declares in check-starts _ _ _ _ 0 h.0 h.1.chains refl,
 )
 
-pub judge_chain-judged-requires : goal.judge_chain-judged-requires
-judge_chain-judged-requires c = (c.requires, c.loop-chain-test.true)
+pub judge_chain-requires : goal.judge_chain-requires
+judge_chain-requires c = (c.requires, c.loop-chain-test.true)
 
-pub returns-in_default : goal.returns-in_default
-returns-in_default c =
+pub returns-in_err-judge_chain : goal.returns-in_err-judge_chain
+returns-in_err-judge_chain c =
     let s = c in
     let l = s.loop-chain in
     λ p reads e.
-    check-refuses _ _ _ _ l.chain no_chain (omega (arith, s.loop-chain-test.true, chains-are e))
-    (l.invariant.1 p reads e) _ (s.judge_chain-judged.ensures p reads e) (chain-at p) _ c.in_default.is
-
-pub overflow_add-chain : goal.overflow_add-chain
-overflow_add-chain c =
-    let b = c in
-    omega (arith, b.loop-chain-test.true, few-chains b.requires.1.1)
-
-pub loop-chain-smaller : goal.loop-chain-smaller
-loop-chain-smaller c = omega (arith, c.loop-chain-test.true)
+    handed-on _ c.from_residual.ensures.1 ∙ sym c.in_err-judge_chain.was ∙ check-refuses _ _ _ _ l.chain no_chain (omega (arith, s.loop-chain-test.true, chains-are e))
+    (l.invariant.1 p reads e) _ (s.judge_chain.ensures p reads e) (chain-at p) _ c.in_err-judge_chain.was
 
 pub loop-chain-preserved : goal.loop-chain-preserved
 loop-chain-preserved c =
@@ -49,7 +42,7 @@ loop-chain-preserved c =
           subst (Rest p) (omega arith)
           (check-passes _ _ _ _ l.chain no_chain
           (omega (arith, s.loop-chain-test.true, chains-are e)) (l.invariant.1 p reads e) _
-          (s.judge_chain-judged.ensures p reads e) c.in-Fine.is),
+          (s.judge_chain.ensures p reads e) c.in_ok-judge_chain.was),
     )
 
 pub returns : goal.returns

@@ -21,6 +21,3 @@ Rest p x = Left chain_places (λ j c. chain_rates p c) (lowest (link_rates p)) p
 abbrev pub invariant-loop-chain : goal.invariant-loop-chain
 invariant-loop-chain l =
     (l.chain ≤ l.tables.chains) × ((p : Program) (reads : List ℕ) → Stands l.text reads l.tables p → Rest p l.chain)
-
-abbrev pub decreases-loop-chain : goal.decreases-loop-chain
-decreases-loop-chain l = l.tables.chains - l.chain

@@ -20,6 +20,3 @@ abbrev pub invariant-loop-reader : goal.invariant-loop-reader
 invariant-loop-reader l =
     (l.reader ≤ l.count) ×
     ((p : Program) → Indexes l.text l.reads l.firsts l.count p → PeriodsOf p l.periods → Rest p l.reader)
-
-abbrev pub decreases-loop-reader : goal.decreases-loop-reader
-decreases-loop-reader l = l.count - l.reader

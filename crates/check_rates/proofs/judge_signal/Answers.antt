@@ -1,10 +1,11 @@
 -- `check_rates::judge_signal` meets its contract. Assumes nothing.
 use Prim.Native.Nat.{ℕ, ◌+◌, ◌-◌, ◌≤◌, ◌<◌}
 use mathlib.Core.List.{List, [], ◌∷◌}
-use mathlib.Core.Path.{◌≡◌, refl, sym, subst}
+use mathlib.Core.Path.{◌≡◌, refl, sym, subst, ◌∙◌}
 use native.Mathlib.Omega.{arith}
 use lib.ListN.{length, get_or}
 use borrow.Author.Rules.{rules}
+use Rattle.basics.proofs.Judgements.{handed-on}
 use Rattle.model.specs.Rules.Outcome.{lowest}
 use Rattle.model.specs.Rules.Program.{Program, Read, signal_at, body_reads}
 use Rattle.model.specs.Rules.Rates.{read_faults}
@@ -17,7 +18,7 @@ use Rattle.check_rates.specs.Rates.{signal_rates}
 use Rattle.check_rates.proofs.Judging.{read-at, one-read}
 use Rattle.check_rates.proofs.judge_signal.Invariants.{Claim, Rest}
 use Rattle.check_rates.proofs.judge_signal.Goals as goal
-use Rattle.check_rates.proofs.judge_signal.Goals.{After-judge_read-judged, In-loop-i, Start}
+use Rattle.check_rates.proofs.judge_signal.Goals.{After-judge_read, In-loop-i, Start}
 
 -- where a read is left
 module _ (b : In-loop-i) where
@@ -82,45 +83,37 @@ taken_at-taken-requires c =
     (read-stands (ix b).1 (x b) (i b) (start b).requires.0 (low b) (high b))
 
 -- The read is judged as the definition does.
-module _ (j : After-judge_read-judged) (p : Program) where
+module _ (j : After-judge_read) (p : Program) where
   abbrev b : In-loop-i
-  b = (goal.at.After-judge_read-judged j).In-loop-i
+  b = (goal.at.After-judge_read j).In-loop-i
 
   module _ (e : Indexes (start b).args.text.now (start b).args.reads.now (firsts b) (start b).args.count p) where
     left : i b - get_or (firsts b) (x b) 0 < length (body_reads (signal_at p (x b)).body)
     left = seen e (x b) (i b) (start b).requires.0 (low b) (high b)
 
-    judged : PeriodsOf p (start b).args.periods.now → j.judge_read-judged.result ≡
+    judged : PeriodsOf p (start b).args.periods.now → j.judge_read.result ≡
         judgement_of (lowest (read_faults p (signal_at p (x b)) (read_at p (x b) (i b - get_or (firsts b) (x b) 0))))
     judged m =
         one-read e _ (start b).requires.1 m (x b) (i b) (start b).requires.0 (low b) (high b) _ _ _
-        j.from_entry-at.ensures.0 j.taken_at-taken.ensures j.judge_read-judged.ensures
+        j.from_entry-at.ensures.0 j.taken_at-taken.ensures j.judge_read.ensures
 
-pub returns-in_default : goal.returns-in_default
-returns-in_default c =
-    let j = (goal.at.returns-in_default c).After-judge_read-judged in
+pub returns-in_err-judge_read : goal.returns-in_err-judge_read
+returns-in_err-judge_read c =
+    let j = (goal.at.returns-in_err-judge_read c).After-judge_read in
     λ p e m.
-    check-refuses _ _ _ _ _ no_read (left j p e) ((b j p).loop-i.invariant.2 p e m) _ (judged j p e m)
-    (read-at p (signal_at p (x (goal.at.After-judge_read-judged j).In-loop-i))) _ c.in_default.is
-
-pub overflow_add-i : goal.overflow_add-i
-overflow_add-i c =
-    let b = c in
-    omega (arith, b.loop-i-test.true, b.from_entry-end.ensures.1)
-
-pub loop-i-smaller : goal.loop-i-smaller
-loop-i-smaller c = omega (arith, c.loop-i-test.true)
+    handed-on _ c.from_residual.ensures.1 ∙ sym c.in_err-judge_read.was ∙ check-refuses _ _ _ _ _ no_read (left j p e) ((b j p).loop-i.invariant.2 p e m) _ (judged j p e m)
+    (read-at p (signal_at p (x (goal.at.After-judge_read j).In-loop-i))) _ c.in_err-judge_read.was
 
 pub loop-i-preserved : goal.loop-i-preserved
 loop-i-preserved c =
-    let j = (goal.at.loop-i-preserved c).After-judge_read-judged in
+    let j = (goal.at.loop-i-preserved c).After-judge_read in
     let l = (goal.at.loop-i-preserved c).In-loop-i in (
       omega (arith, low l),
       omega (arith, l.loop-i-test.true),
       λ p e m.
           subst (Rest p (x l)) (omega (arith, low l))
           (check-passes _ _ _ _ _ no_read (left j p e) (l.loop-i.invariant.2 p e m) _ (judged j p e m)
-          c.in-Fine.is),
+          c.in_ok-judge_read.was),
     )
 
 pub returns : goal.returns

@@ -31,6 +31,3 @@ abbrev pub invariant-loop-i : goal.invariant-loop-i
 invariant-loop-i l =
     (get_or l.firsts l.reader 0 ≤ l.i) × (l.i ≤ l.end) ×
     Claim l.text l.reads l.firsts l.count l.periods (λ p. Rest p l.reader (l.i - get_or l.firsts l.reader 0))
-
-abbrev pub decreases-loop-i : goal.decreases-loop-i
-decreases-loop-i l = l.end - l.i

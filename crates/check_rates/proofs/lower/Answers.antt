@@ -9,19 +9,19 @@ unfolding lower_of
 returns-then-other-one c =
     let c4 = c in
     let c7 = c in
-    rw (c7.in-Refused.is, c4.in-Refused-b.is) (rw (lt-ltb _ _ c.if-other-one.true))
+    rw (c7.in-Err.is, c4.in-Err-b.is) (rw (lt-ltb _ _ c.if-other-one.true))
 
-pub returns-in-Fine : goal.returns-in-Fine
+pub returns-in-Ok : goal.returns-in-Ok
 unfolding lower_of
-returns-in-Fine c = rw c.in-Fine.is
+returns-in-Ok c = rw c.in-Ok.is
 
-pub returns-in-Fine-b : goal.returns-in-Fine-b
+pub returns-in-Ok-b : goal.returns-in-Ok-b
 unfolding lower_of
-returns-in-Fine-b c = rw (c.in-Refused.is, c.in-Fine-b.is)
+returns-in-Ok-b c = rw (c.in-Err.is, c.in-Ok-b.is)
 
 pub returns-else-other-one : goal.returns-else-other-one
 unfolding lower_of
 returns-else-other-one c =
     let c4 = c in
     let c7 = c in
-    rw (c7.in-Refused.is, c4.in-Refused-b.is) (rw (le-ltb _ _ c.if-other-one.false))
+    rw (c7.in-Err.is, c4.in-Err-b.is) (rw (le-ltb _ _ c.if-other-one.false))

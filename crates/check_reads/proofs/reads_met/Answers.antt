@@ -1,9 +1,10 @@
 -- `check_reads::reads_met` meets its contract. Assumes nothing.
 use Prim.Native.Nat.{ℕ, ◌-◌, ◌≤◌}
 use mathlib.Core.List.{List}
-use mathlib.Core.Path.{◌≡◌, refl, subst}
+use mathlib.Core.Path.{◌≡◌, refl, subst, sym, ◌∙◌}
 use native.Mathlib.Omega.{arith}
 use borrow.Author.Rules.{rules}
+use Rattle.basics.proofs.Judgements.{handed-on}
 use Rattle.model.specs.Rules.Outcome.{accepted}
 use Rattle.model.specs.Rules.Program.{Program, no_signal, body_reads}
 use Rattle.model.specs.Rules.Rates.{declared_and_rated}
@@ -24,24 +25,17 @@ loop-reader-init c = (
   λ p e s order q t o. let h = rising-program _ p e.declares in check-starts _ _ _ _ 0 h.0 h.1.signals refl,
 )
 
-pub signal_met-judged-requires : goal.signal_met-judged-requires
-signal_met-judged-requires c =
+pub signal_met-requires : goal.signal_met-requires
+signal_met-requires c =
     let a = c in (c.loop-reader-test.true, a.requires.0, a.requires.1, a.requires.2)
 
-pub returns-in_default : goal.returns-in_default
-returns-in_default c =
+pub returns-in_err-signal_met : goal.returns-in_err-signal_met
+returns-in_err-signal_met c =
     let k = c in
     let l = k.loop-reader in
     λ p e s order q t o.
-    check-refuses _ _ _ _ l.reader no_signal (omega (arith, k.loop-reader-test.true, e.count-is))
-    (l.invariant.1 p e s order q t o) _ (k.signal_met-judged.ensures p e s order q t o) (signal-at p s) _ c.in_default.is
-
-pub overflow_add-reader : goal.overflow_add-reader
-overflow_add-reader c =
-    let b = c in omega (arith, b.loop-reader-test.true, b.requires.0)
-
-pub loop-reader-smaller : goal.loop-reader-smaller
-loop-reader-smaller c = omega (arith, c.loop-reader-test.true)
+    handed-on _ c.from_residual.ensures.1 ∙ sym c.in_err-signal_met.was ∙ check-refuses _ _ _ _ l.reader no_signal (omega (arith, k.loop-reader-test.true, e.count-is))
+    (l.invariant.1 p e s order q t o) _ (k.signal_met.ensures p e s order q t o) (signal-at p s) _ c.in_err-signal_met.was
 
 pub loop-reader-preserved : goal.loop-reader-preserved
 loop-reader-preserved c =
@@ -51,7 +45,7 @@ loop-reader-preserved c =
       λ p e s order q t o.
           subst (Rest p s) (omega arith)
           (check-passes _ _ _ _ l.reader no_signal (omega (arith, k.loop-reader-test.true, e.count-is))
-          (l.invariant.1 p e s order q t o) _ (k.signal_met-judged.ensures p e s order q t o) c.in-Fine.is),
+          (l.invariant.1 p e s order q t o) _ (k.signal_met.ensures p e s order q t o) c.in_ok-signal_met.was),
     )
 
 pub returns : goal.returns

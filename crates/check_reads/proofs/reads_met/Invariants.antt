@@ -25,6 +25,3 @@ invariant-loop-reader l =
     (l.reader ≤ l.signals) ×
     ((p : Program) → Indexes l.text l.reads l.firsts l.signals p → (s : Schedule) (order : List ℕ) → declared_and_rated p ≡ accepted tt →
     PeriodsOf p l.periods → SlotsOf p s order l.phases l.ranks → Rest p s l.reader)
-
-abbrev pub decreases-loop-reader : goal.decreases-loop-reader
-decreases-loop-reader l = l.signals - l.reader

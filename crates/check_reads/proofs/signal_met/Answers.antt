@@ -1,10 +1,11 @@
 -- `check_reads::signal_met` meets its contract. Assumes nothing.
 use Prim.Native.Nat.{ℕ, ◌+◌, ◌-◌, ◌≤◌, ◌<◌}
 use mathlib.Core.List.{List, [], ◌∷◌}
-use mathlib.Core.Path.{◌≡◌, refl, sym, subst}
+use mathlib.Core.Path.{◌≡◌, refl, sym, subst, ◌∙◌}
 use native.Mathlib.Omega.{arith}
 use lib.ListN.{length, get_or}
 use borrow.Author.Rules.{rules}
+use Rattle.basics.proofs.Judgements.{handed-on}
 use Rattle.model.specs.Rules.Outcome.{accepted, lowest}
 use Rattle.model.specs.Rules.Program.{Program, Read, signal_at, body_reads}
 use Rattle.model.specs.Rules.Rates.{declared_and_rated}
@@ -18,7 +19,7 @@ use Rattle.check_reads.specs.Met.{unmet}
 use Rattle.check_reads.proofs.Judging.{read_fault, read-at, one-read}
 use Rattle.check_reads.proofs.signal_met.Invariants.{Claim, Rest}
 use Rattle.check_reads.proofs.signal_met.Goals as goal
-use Rattle.check_reads.proofs.signal_met.Goals.{After-read_met-judged, In-loop-i, Start}
+use Rattle.check_reads.proofs.signal_met.Goals.{After-read_met, In-loop-i, Start}
 
 -- where a read is left
 module _ (b : In-loop-i) where
@@ -83,9 +84,9 @@ taken_at-taken-requires c =
     (read-stands (ix b).1 (x b) (i b) (start b).requires.0 (low b) (high b))
 
 -- The read is judged as the definition does.
-module _ (j : After-read_met-judged) (p : Program) where
+module _ (j : After-read_met) (p : Program) where
   abbrev b : In-loop-i
-  b = (goal.at.After-read_met-judged j).In-loop-i
+  b = (goal.at.After-read_met j).In-loop-i
 
   module _ (e : Indexes (start b).args.text.now (start b).args.reads.now (firsts b) (start b).args.signals p) where
     left : i b - get_or (firsts b) (x b) 0 < length (body_reads (signal_at p (x b)).body)
@@ -93,36 +94,28 @@ module _ (j : After-read_met-judged) (p : Program) where
 
     judged : (s : Schedule) (order : List ℕ) → declared_and_rated p ≡ accepted tt → PeriodsOf p (start b).args.periods.now →
         SlotsOf p s order (start b).args.phases.now (start b).args.ranks.now →
-        j.read_met-judged.result ≡ judgement_of (lowest (read_fault p s (x b) (read_at p (x b) (i b - get_or (firsts b) (x b) 0))))
+        j.read_met.result ≡ judgement_of (lowest (read_fault p s (x b) (read_at p (x b) (i b - get_or (firsts b) (x b) 0))))
     judged s order q t o =
         one-read e s order _ _ _ q t o (start b).requires.2 (x b) (i b) (start b).requires.0 (low b) (high b) _ _ _
-        j.from_entry-at.ensures.0 j.taken_at-taken.ensures j.read_met-judged.ensures
+        j.from_entry-at.ensures.0 j.taken_at-taken.ensures j.read_met.ensures
 
-pub returns-in_default : goal.returns-in_default
-returns-in_default c =
-    let j = (goal.at.returns-in_default c).After-read_met-judged in
+pub returns-in_err-read_met : goal.returns-in_err-read_met
+returns-in_err-read_met c =
+    let j = (goal.at.returns-in_err-read_met c).After-read_met in
     λ p e s order q t o.
-    check-refuses _ _ _ _ _ no_read (left j p e) ((b j p).loop-i.invariant.2 p e s order q t o) _ (judged j p e s order q t o)
-    (read-at p s (x (goal.at.After-read_met-judged j).In-loop-i)) _ c.in_default.is
-
-pub overflow_add-i : goal.overflow_add-i
-overflow_add-i c =
-    let b = c in
-    omega (arith, b.loop-i-test.true, b.from_entry-end.ensures.1)
-
-pub loop-i-smaller : goal.loop-i-smaller
-loop-i-smaller c = omega (arith, c.loop-i-test.true)
+    handed-on _ c.from_residual.ensures.1 ∙ sym c.in_err-read_met.was ∙ check-refuses _ _ _ _ _ no_read (left j p e) ((b j p).loop-i.invariant.2 p e s order q t o) _ (judged j p e s order q t o)
+    (read-at p s (x (goal.at.After-read_met j).In-loop-i)) _ c.in_err-read_met.was
 
 pub loop-i-preserved : goal.loop-i-preserved
 loop-i-preserved c =
-    let j = (goal.at.loop-i-preserved c).After-read_met-judged in
+    let j = (goal.at.loop-i-preserved c).After-read_met in
     let l = (goal.at.loop-i-preserved c).In-loop-i in (
       omega (arith, low l),
       omega (arith, l.loop-i-test.true),
       λ p e s order q t o.
           subst (Rest p s (x l)) (omega (arith, low l))
           (check-passes _ _ _ _ _ no_read (left j p e) (l.loop-i.invariant.2 p e s order q t o) _
-          (judged j p e s order q t o) c.in-Fine.is),
+          (judged j p e s order q t o) c.in_ok-read_met.was),
     )
 
 pub returns : goal.returns

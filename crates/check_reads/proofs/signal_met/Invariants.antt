@@ -33,6 +33,3 @@ abbrev pub invariant-loop-i : goal.invariant-loop-i
 invariant-loop-i l =
     (get_or l.firsts l.reader 0 ≤ l.i) × (l.i ≤ l.end) ×
     Claim (Indexes l.text l.reads l.firsts l.signals) l.periods l.phases l.ranks (λ p s. Rest p s l.reader (l.i - get_or l.firsts l.reader 0))
-
-abbrev pub decreases-loop-i : goal.decreases-loop-i
-decreases-loop-i l = l.end - l.i

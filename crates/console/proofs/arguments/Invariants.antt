@@ -1,8 +1,5 @@
-use Rattle.std.proofs.Common.{length, ◌≡◌, ◌-◌}
+use Rattle.std.proofs.Common.{length, ◌≤◌}
 use Rattle.console.proofs.arguments.Given as goal
 
 abbrev pub invariant-loop-i : goal.invariant-loop-i
-invariant-loop-i l = length l.line ≡ length l.initial.line
-
-abbrev pub decreases-loop-i : goal.decreases-loop-i
-decreases-loop-i l = l.count - l.i
+invariant-loop-i l = l.at ≤ length l.space

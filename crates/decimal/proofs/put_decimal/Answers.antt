@@ -1,5 +1,5 @@
 -- `decimal::put_decimal` meets its contract. Assumes nothing.
-use Rattle.decimal.proofs.Puts.{decimal-minus, decimal-plus, put_one, put_then, put_is, put-length}
+use Rattle.decimal.proofs.Puts.{decimal-minus, decimal-plus, put_one, put_then, put_is}
 use Rattle.model.specs.Rules.Decimal.{natural, decimal}
 use Rattle.word.proofs.Locals.{of-local, minus}
 use Rattle.model.specs.Rules.Word.{bits_of}
@@ -8,7 +8,6 @@ use mathlib.Core.Path.{◌≡◌, sym, ap, ◌∙◌}
 use mathlib.Core.List.{◌∷◌}
 use Prim.Native.Nat.{ℕ, ◌+◌, ◌-◌}
 use native.Mathlib.Omega.{arith}
-use borrow.Author.Rules.{rules}
 use Rattle.decimal.proofs.put_decimal.Goals as goal
 use Rattle.decimal.proofs.put_decimal.Goals.{Else-w-lt0, Then-w-lt0}
 

@@ -25,10 +25,3 @@ returns c =
 
 pub mark_readers-marks-requires : goal.mark_readers-marks-requires
 mark_readers-marks-requires c = c.requires
-
-pub overflow_add-round : goal.overflow_add-round
-overflow_add-round c = let t = c in
-    omega (arith, t.loop-round-test.true, t.requires.few)
-
-pub loop-round-smaller : goal.loop-round-smaller
-loop-round-smaller c = omega (arith, c.loop-round-test.true)

@@ -12,6 +12,3 @@ abbrev pub invariant-loop-round : goal.invariant-loop-round
 invariant-loop-round l =
     (l.round ≤ l.signals) ×
     ((p : Program) → Indexes l.text l.reads l.firsts l.signals p → MarksBy (marks_after p l.input l.round) l.marks)
-
-abbrev pub decreases-loop-round : goal.decreases-loop-round
-decreases-loop-round l = l.signals - l.round

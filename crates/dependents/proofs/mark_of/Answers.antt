@@ -160,9 +160,3 @@ bounds-reads-i c = let b = (goal.at.bounds-reads-i c).In-loop-i in in_table (ix 
 
 pub is_marked-requires : goal.is_marked-requires
 is_marked-requires c = signal-small c
-
-pub overflow_add-i : goal.overflow_add-i
-overflow_add-i c = let l = c in omega (arith, l.loop-i-test.true, l.from_entry-end.ensures.1)
-
-pub loop-i-smaller : goal.loop-i-smaller
-loop-i-smaller c = let l = c in omega (arith, l.loop-i-test.true)

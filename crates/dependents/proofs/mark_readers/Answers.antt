@@ -50,9 +50,3 @@ mark_of-requires c = (_, c.loop-reader-test.true, c.requires)
 
 pub bounds-marks-reader : goal.bounds-marks-reader
 bounds-marks-reader c = omega (arith, small c)
-
-pub overflow_add-reader : goal.overflow_add-reader
-overflow_add-reader c = omega (arith, small c)
-
-pub loop-reader-smaller : goal.loop-reader-smaller
-loop-reader-smaller c = omega (arith, c.loop-reader-test.true)

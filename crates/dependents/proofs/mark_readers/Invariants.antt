@@ -20,6 +20,3 @@ invariant-loop-reader l =
     (l.reader ≤ l.signals) × (length l.marks ≡ 64) × ((y : ℕ) → l.reader ≤ y → get_or l.marks y 0 ≡ 0) ×
     ((p : Program) → Indexes l.text l.reads l.firsts l.signals p →
     (y : ℕ) → y < l.reader → get_or l.marks y 0 ≡ next l.old l.input p y)
-
-abbrev pub decreases-loop-reader : goal.decreases-loop-reader
-decreases-loop-reader l = l.signals - l.reader

@@ -1,13 +1,10 @@
 -- `image_code::emit_expressions` meets its contract: the measure is the depth that is still allowed. Assumes nothing.
 use Prim.Native.Nat.{ℕ, suc, ◌+◌, ◌-◌, ◌^◌, ◌≤◌, ◌<◌}
-use mathlib.Core.List.{List, [], ◌∷◌}
-use mathlib.Core.Logic.{inl, inr}
+use mathlib.Core.List.{List}
 use mathlib.Core.Path.{◌≡◌, refl, sym, ap, subst, ◌∙◌}
 use native.Mathlib.Omega.{arith}
-use borrow.Author.Rules.{rules}
 use lib.ListN.{length}
 use Rattle.model.specs.Rules.Command.{operator_at}
-use Rattle.model.specs.Rules.Word.{byte_at}
 use Rattle.model.specs.declared.Operator.{Operator}
 use Rattle.text_command.specs.Operator.{operands_of}
 use Rattle.image_code.specs.Code.{Rooms, EmitsAll}
@@ -31,12 +28,12 @@ use Rattle.image_code.proofs.Operands.{
   spans,
 }
 use Rattle.image_code.proofs.+emit_expressions.Goals as goal
-use Rattle.image_code.proofs.+emit_expressions.Goals.{After-operands_of-operands, In-loop-left, Joined-operands-eq0, Start, then-operands-eq0, else-operands-eq0}
+use Rattle.image_code.proofs.+emit_expressions.Goals.{After-operands_of-operands, In-loop-i, Joined-operands-eq0, Start, then-operands-eq0, else-operands-eq0}
 
 -- in a turn
-module _ (t : ℕ) (b : In-loop-left t) where
+module _ (t : ℕ) (b : In-loop-i t) where
   abbrev start : Start t
-  start = (goal.at.In-loop-left t b).Start
+  start = (goal.at.In-loop-i t b).Start
 
   abbrev text : List ℕ
   text = start.args.text.now.now
@@ -45,33 +42,36 @@ module _ (t : ℕ) (b : In-loop-left t) where
   depth = start.args.depth
 
   abbrev out : List ℕ
-  out = b.loop-left.out.now
+  out = b.loop-i.out.now
 
   abbrev here : ℕ
-  here = b.loop-left.done.next
+  here = b.loop-i.done.next
 
   abbrev from : ℕ
-  from = b.loop-left.done.end
+  from = b.loop-i.done.end
 
   abbrev left : ℕ
-  left = b.loop-left.left
+  left = start.args.number - b.loop-i.i
 
-  one_more : suc (left - 1) ≡ left
-  one_more = omega (arith, b.loop-left-test.true)
+  abbrev rest : ℕ
+  rest = start.args.number - (b.loop-i.i + 1)
+
+  one_more : suc rest ≡ left
+  one_more = omega (arith, b.loop-i-test.true)
 
   counted : length text < 2 ^ 64
   counted = start.requires.counted
 
-  all : Rooms depth text here (length out) from (suc (left - 1)) 0
-  all = subst (λ n. Rooms depth text here (length out) from n 0) (sym one_more) b.loop-left.invariant.0
+  all : Rooms depth text here (length out) from (suc rest) 0
+  all = subst (λ n. Rooms depth text here (length out) from n 0) (sym one_more) b.loop-i.invariant.0
 
   room : Room depth text here (length out) from
   room = first-room all
 
 -- where the operator is known
 module _ (t : ℕ) (o : After-operands_of-operands t) where
-  abbrev turn : In-loop-left t
-  turn = (goal.at.After-operands_of-operands t o).In-loop-left
+  abbrev turn : In-loop-i t
+  turn = (goal.at.After-operands_of-operands t o).In-loop-i
 
   abbrev operator : Operator
   operator = o.operator_at-operator.result
@@ -100,7 +100,7 @@ module _ (t : ℕ) (o : After-operands_of-operands t) where
 
 -- one expression is written, by either branch
 one : (t : ℕ) (j : Joined-operands-eq0 t) →
-    let b = (goal.at.Joined-operands-eq0 t j).In-loop-left in
+    let b = (goal.at.Joined-operands-eq0 t j).In-loop-i in
     Emits (text t b) (here t b) (out t b) (from t b) j.if-operands-eq0.out.now j.if-operands-eq0.done.next j.if-operands-eq0.done.end
 one t j =
     let o = (goal.at.Joined-operands-eq0 t j).After-operands_of-operands in
@@ -118,23 +118,24 @@ one t j =
     ]
 
 -- in the same slice
-same : (t : ℕ) (j : Joined-operands-eq0 t) → j.if-operands-eq0.out.ghost_name ≡ j.loop-left.out.ghost_name
+same : (t : ℕ) (j : Joined-operands-eq0 t) → j.if-operands-eq0.out.ghost_name ≡ j.loop-i.out.ghost_name
 same t j =
     elim j.if-operands-eq0.branch [
       | then-operands-eq0 x ↦ rw x.out-is refl
       | else-operands-eq0 y ↦ rw y.out-is y.emit_expressions-before.ensures.same
     ]
 
-pub loop-left-init : goal.loop-left-init
-loop-left-init t c = (c.requires.rooms, refl, λ l next end w. w)
+pub loop-i-init : goal.loop-i-init
+loop-i-init t c =
+    let z : c.args.number - 0 ≡ c.args.number = omega arith in rw z (c.requires.rooms, refl, λ l next end w. w)
 
 pub operator_at-operator-requires : goal.operator_at-operator-requires
-operator_at-operator-requires t c = spells-stands (room t (goal.at.operator_at-operator-requires t c).In-loop-left).spelled
+operator_at-operator-requires t c = spells-stands (room t (goal.at.operator_at-operator-requires t c).In-loop-i).spelled
 
 pub put_leaf-done-requires : goal.put_leaf-done-requires
 put_leaf-done-requires t c =
     let o = (goal.at.put_leaf-done-requires t c).After-operands_of-operands in
-    let b = (goal.at.put_leaf-done-requires t c).In-loop-left in
+    let b = (goal.at.put_leaf-done-requires t c).In-loop-i in
     record {
       operator = operator-stands (operator t o) (is t o) (room t b);
       leaf = arity-is (operator t o) ∙ sym o.operands_of-operands.ensures ∙ c.if-operands-eq0.true;
@@ -146,7 +147,7 @@ pub overflow_add-first : goal.overflow_add-first
 overflow_add-first t c =
     let o = (goal.at.overflow_add-first t c).After-operands_of-operands in
     let one = one-wide (operator t o) (operands t o c.if-operands-eq0.false) in
-    omega (arith, inside t o, one, counted t (goal.at.After-operands_of-operands t o).In-loop-left, c.in_expression.ensures)
+    omega (arith, inside t o, one, counted t (goal.at.After-operands_of-operands t o).In-loop-i, c.in_expression.ensures)
 
 pub overflow_sub-depth : goal.overflow_sub-depth
 overflow_sub-depth t c = omega (arith, some t (goal.at.overflow_sub-depth t c).After-operands_of-operands)
@@ -158,7 +159,7 @@ emit_expressions-before-requires t c =
       omega (arith, some t o, c.decreases),
       (
         rw (c.in_expression.ensures, o.operands_of-operands.ensures) (without (behind t o h)),
-        counted t (goal.at.After-operands_of-operands t o).In-loop-left,
+        counted t (goal.at.After-operands_of-operands t o).In-loop-i,
       ),
     )
 
@@ -171,16 +172,10 @@ put_operator-done-requires t c =
     let ws = rw (k.in_expression.ensures, o.operands_of-operands.ensures) at e.emit_expressions-before.ensures.emits_all in
     omega (arith, after-rooms (behind t o h) ws, ap length (c.operator_byte.ensures (operands t o h)))
 
-pub overflow_sub-left : goal.overflow_sub-left
-overflow_sub-left t c = omega (arith, (turn t (goal.at.overflow_sub-left t c).After-operands_of-operands).loop-left-test.true)
-
-pub loop-left-smaller : goal.loop-left-smaller
-loop-left-smaller t c = omega (arith, (turn t (goal.at.loop-left-smaller t c).After-operands_of-operands).loop-left-test.true)
-
-pub loop-left-preserved : goal.loop-left-preserved
-loop-left-preserved t c =
-    let b = (goal.at.loop-left-preserved t c).In-loop-left in
-    let l = b.loop-left in (
+pub loop-i-preserved : goal.loop-i-preserved
+loop-i-preserved t c =
+    let b = (goal.at.loop-i-preserved t c).In-loop-i in
+    let l = b.loop-i in (
       rest-rooms (all t b) (one t c),
       same t c ∙ l.invariant.1,
       λ m next end w. l.invariant.2 m next end
@@ -189,8 +184,8 @@ loop-left-preserved t c =
 
 pub returns : goal.returns
 returns t c =
-    let l = c.loop-left in
-    let z : l.left ≡ 0 = omega (arith, c.loop-left-test.false) in
+    let l = c.loop-i in
+    let z : c.args.number - l.i ≡ 0 = omega (arith, c.loop-i-test.false) in
     record {
       same = l.invariant.1;
       emits_all = l.invariant.2 _ _ _ (rw z emits_none);

@@ -1,6 +1,5 @@
 -- `image_code::emit_equation` meets its contract. Assumes nothing.
 use native.Mathlib.Omega.{arith}
-use borrow.Author.Rules.{rules}
 use Rattle.image_code.proofs.Operands.{alone, emits-alone}
 use Rattle.image_code.proofs.Signals.{place_inside, equation-room, store-room, equation-emits}
 use Rattle.image_code.proofs.emit_equation.Goals as goal

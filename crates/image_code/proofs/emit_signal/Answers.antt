@@ -3,7 +3,6 @@ use native.Mathlib.Omega.{arith}
 use mathlib.Core.Path.{sym}
 use Rattle.image_code.proofs.Operands.{puts-length}
 use Rattle.image_code.proofs.Signals.{place_inside, sample-room, sample-emits}
-use borrow.Author.Rules.{rules}
 use Rattle.image_code.proofs.emit_signal.Goals as goal
 
 pub bounds-text-place : goal.bounds-text-place

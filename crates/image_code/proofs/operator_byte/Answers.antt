@@ -3,7 +3,6 @@ use mathlib.Core.List.{[], ◌∷◌}
 use mathlib.Core.Path.{◌≡◌, refl}
 use Rattle.model.specs.declared.Binary.{Binary}
 use Rattle.model.specs.declared.Operator.{Operator}
-use Rattle.model.specs.declared.Operator.TheVariants as Operator
 use Rattle.model.specs.declared.Unary.{Unary}
 use Rattle.text_command.specs.Operator.{operands_of}
 use Rattle.image_code.specs.Shape.{lead_of}

@@ -10,7 +10,6 @@ use mir.Syntax.{w32}
 use types.Run.{OneOf, miss}
 use denote.Enum.Declared.{tag_of, declared}
 use Rattle.model.specs.declared.Operator.{Operator}
-use Rattle.model.specs.declared.Operator.TheVariants as Operator
 use Rattle.model.specs.contracts.Operator.{enum}
 use Rattle.image_code.specs.Code.{Puts, LeafSpace}
 use Rattle.image_code.specs.Shape.{lead_of}

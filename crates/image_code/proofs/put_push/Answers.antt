@@ -9,7 +9,6 @@ use Rattle.model.specs.Rules.Word.{word_bytes}
 use Prim.Native.Nat.{ℕ, ◌+◌}
 use lib.IntN.{ℤ}
 use mir.Facts.{to_z-of_z}
-use borrow.Author.Rules.{rules}
 use Rattle.image_code.proofs.put_push.Goals as goal
 
 pub shape_of-out : goal.shape_of-out

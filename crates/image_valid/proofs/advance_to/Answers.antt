@@ -1,7 +1,5 @@
 -- `image_valid::advance_to` meets its contract. Assumes nothing.
-use Prim.Native.Nat.{◌-◌}
 use native.Mathlib.Omega.{arith}
-use Rattle.image_valid.specs.Walk.{Advances}
 use Rattle.image_valid.proofs.advance_to.Goals as goal
 use Rattle.image_valid.proofs.advance_to.Goals.{At-loop-cursor, Start}
 

@@ -5,7 +5,6 @@ use native.Mathlib.Omega.{arith}
 use Rattle.model.specs.Rules.Image.{lists_at}
 use Rattle.model.specs.Rules.Machine.{hyper_of, count_of}
 use Rattle.image_valid.proofs.Parts.{Lists, head, lists, room, entries_by, entries_none}
-use borrow.Author.Rules.{rules}
 use Rattle.image_valid.proofs.entries_ok.Goals as goal
 use Rattle.image_valid.proofs.entries_ok.Goals.{After-lists_at-start, Start}
 

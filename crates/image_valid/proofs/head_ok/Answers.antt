@@ -2,7 +2,6 @@
 use mathlib.Core.Path.{sym, ◌∙◌}
 use borrow.Author.Tests.{le-leb, lt-leb, eq-eqb, ne_eqb}
 use Rattle.model.specs.Rules.Machine.{head_ok}
-use borrow.Author.Rules.{rules}
 use Rattle.image_valid.proofs.head_ok.Goals as goal
 
 pub returns-then-image-lt4 : goal.returns-then-image-lt4

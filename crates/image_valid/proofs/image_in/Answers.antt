@@ -1,7 +1,6 @@
 -- `image_valid::image_in` meets its contract. Assumes nothing.
 use native.Mathlib.Omega.{arith}
 use lib.ListN.{length-take}
-use borrow.Author.Rules.{rules}
 use Rattle.image_valid.proofs.image_in.Goals as goal
 
 pub slice_bounds-result-end : goal.slice_bounds-result-end

@@ -4,7 +4,6 @@ use Prim.Native.Nat.{ℕ}
 use native.Mathlib.Omega.{arith}
 use Rattle.model.specs.Rules.Word.{two_at}
 use Rattle.image_valid.proofs.Lent.{lends-short, lends-all, lends_first, lends-neither}
-use borrow.Author.Rules.{rules}
 use Rattle.image_valid.proofs.image_length.Goals as goal
 use Rattle.image_valid.proofs.image_length.Goals.{After-from_byte-n}
 

@@ -1,8 +1,6 @@
 -- `image_valid::is_end` meets its contract. Assumes nothing.
 use mathlib.Core.Path.{sym, ap, ◌∙◌}
 use Prim.Native.Nat.{ℕ, ◌+◌}
-use borrow.Author.Rules.{rules}
-use borrow.Author.Tests.{not-true, not-false}
 use Rattle.model.specs.Rules.Machine.{code_offset}
 use Rattle.image_valid.specs.Walk.{ends_code}
 use Rattle.image_valid.proofs.is_end.Goals as goal

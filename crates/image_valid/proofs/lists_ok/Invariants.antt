@@ -1,16 +1,11 @@
 -- `image_valid::lists_ok` meets its contract. Assumes nothing.
-use mathlib.Core.Path.{◌≡◌, sym, ap, ◌∙◌}
-use mathlib.Core.Bool.{Bool, true, false}
+use mathlib.Core.Path.{◌≡◌}
+use mathlib.Core.Bool.{Bool, true}
 use mathlib.Core.List.{List}
-use Prim.Native.Nat.{ℕ, ◌+◌, ◌-◌, ◌≤◌}
-use native.Mathlib.Omega.{arith}
-use borrow.Author.Tests.{le-leb, lt-leb, eq-eqb, ne_eqb}
-use lib.Dec.{leb, eqb}
-use Rattle.model.specs.Rules.Image.{lists_at}
-use Rattle.model.specs.Rules.Machine.{hyper_of, count_of, list_offset, table_offset, lists_ok}
+use Prim.Native.Nat.{ℕ, ◌+◌, ◌≤◌}
+use lib.Dec.{leb}
+use Rattle.model.specs.Rules.Machine.{list_offset}
 use Rattle.model.specs.Rules.Search.{all_below}
-use Rattle.model.proofs.Pairs.Decide.{all_none, all_more, all-fails}
-use Rattle.image_valid.proofs.Parts.{head}
 use Rattle.image_valid.proofs.lists_ok.Given as goal
 
 -- list c starts where it ends, or before
@@ -19,6 +14,3 @@ rising image c = leb (list_offset image c) (list_offset image (c + 1))
 
 abbrev pub invariant-loop-c : goal.invariant-loop-c
 invariant-loop-c l = (all_below l.c (rising l.image) ≡ true) × (l.c ≤ l.h) × (l.last ≡ list_offset l.image l.c)
-
-abbrev pub decreases-loop-c : goal.decreases-loop-c
-decreases-loop-c l = l.h - l.c

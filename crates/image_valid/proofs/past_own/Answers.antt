@@ -1,6 +1,5 @@
 -- `image_valid::past_own` meets its contract. Assumes nothing.
 use mathlib.Core.Path.{refl, sym, ◌∙◌}
-use borrow.Author.Rules.{rules}
 use Rattle.image_valid.specs.Walk.{past_own}
 use Rattle.image_valid.proofs.past_own.Goals as goal
 

@@ -5,10 +5,8 @@ use lib.Dec.{ltb}
 use lib.ListN.{get_or}
 use mathlib.Core.Bool.{true}
 use native.Mathlib.Omega.{arith}
-use borrow.Author.Tests.{not-true, not-false}
 use Rattle.model.specs.Rules.Machine.{head_ok, lists_ok, table_ok}
 use Rattle.image_valid.proofs.Parts.{head, table, without-head, without-lists, without-table, with-table}
-use borrow.Author.Rules.{rules}
 use Rattle.image_valid.proofs.well_formed.Goals as goal
 use Rattle.image_valid.proofs.well_formed.Goals.{Else-not-head_ok, Else-not-lists_ok, Else-not-table_ok}
 

@@ -2,7 +2,6 @@
 use mathlib.Core.Path.{◌≡◌, ap, ◌∙◌}
 use Prim.Native.Nat.{ℕ, ◌+◌, ◌≤◌, ◌<◌}
 use native.Mathlib.Omega.{arith}
-use borrow.Author.Rules.{rules}
 use borrow.Author.Tests.{le-leb, lt-leb, lt-ltb, le-ltb}
 use lib.ListN.{get_or}
 use Rattle.image_valid_code.specs.Shape.{height_after}
@@ -45,14 +44,16 @@ under e f h = omega arith
 
 pub returns-then-next-le-LEVEL : goal.returns-then-next-le-LEVEL
 unfolding height_after
-returns-then-next-le-LEVEL c = let w = c in (simp (le-leb _ _ (rw (shape (goal.at.returns-then-next-le-LEVEL w).After-from_byte) at c.if-next-le-LEVEL.true)), (small (goal.at.returns-then-next-le-LEVEL w).After-from_byte).0, (small (goal.at.returns-then-next-le-LEVEL w).After-from_byte).1)
+returns-then-next-le-LEVEL c =
+    let w = (goal.at.returns-then-next-le-LEVEL c).After-from_byte in
+    record { words = simp (le-leb _ _ (rw (shape w) at c.if-next-le-LEVEL.true)); within = tt; bytes = small w }
 
 pub returns-then-next : goal.returns-then-next
 unfolding height_after
 returns-then-next c =
-    let w = c in
-    let few = lt-leb _ _ (rw (shape (goal.at.returns-then-next w).After-from_byte) at c.if-next-le-LEVEL.false) in
-    (simp (few, lt-ltb _ _ (rw (shape (goal.at.returns-then-next w).After-from_byte) at c.if-next.true)), (small (goal.at.returns-then-next w).After-from_byte).0, (small (goal.at.returns-then-next w).After-from_byte).1)
+    let w = (goal.at.returns-then-next c).After-from_byte in
+    let few = lt-leb _ _ (rw (shape w) at c.if-next-le-LEVEL.false) in
+    record { words = simp (few, lt-ltb _ _ (rw (shape w) at c.if-next.true)); within = tt; bytes = small w }
 
 -- the stack's words are in the range
 module _ (l : After-from_byte-2) where
@@ -68,25 +69,27 @@ module _ (l : After-from_byte-2) where
 pub returns-then-from_byte-x : goal.returns-then-from_byte-x
 unfolding height_after
 returns-then-from_byte-x c =
-    let l = c in (
-      simp (
-        lt-leb _ _ (enough (goal.at.returns-then-from_byte-x l).After-from_byte-2),
-        le-ltb _ _ (most (goal.at.returns-then-from_byte-x l).After-from_byte-2),
-        lt-ltb _ _ (over (ceiling (goal.at.returns-then-from_byte-x l).After-from_byte-2) (tables (goal.at.returns-then-from_byte-x l).After-from_byte-2).from_byte-x.ensures.0 c.if-from_byte-x.true),
-      ),
-      (small (goal.at.returns-then-from_byte-x l).After-from_byte).0,
-      (small (goal.at.returns-then-from_byte-x l).After-from_byte).1,
-    )
+    let l = (goal.at.returns-then-from_byte-x c).After-from_byte-2 in
+    record {
+      words = simp (
+        lt-leb _ _ (enough l),
+        le-ltb _ _ (most l),
+        lt-ltb _ _ (over (ceiling l) (tables l).from_byte-x.ensures.0 c.if-from_byte-x.true),
+      );
+      within = tt;
+      bytes = small (goal.at.returns-then-from_byte-x c).After-from_byte;
+    }
 
 pub returns : goal.returns
 unfolding height_after
 returns c =
-    let l = c in (
-      rw (shape (goal.at.returns l).After-from_byte) (simp (
-        lt-leb _ _ (enough (goal.at.returns l).After-from_byte-2),
-        le-ltb _ _ (most (goal.at.returns l).After-from_byte-2),
-        le-ltb _ _ (under (ceiling (goal.at.returns l).After-from_byte-2) (tables (goal.at.returns l).After-from_byte-2).from_byte-x.ensures.0 c.if-from_byte-x.false),
-      )),
-      (small (goal.at.returns l).After-from_byte).0,
-      (small (goal.at.returns l).After-from_byte).1,
-    )
+    let l = (goal.at.returns c).After-from_byte-2 in
+    record {
+      words = rw (shape (goal.at.returns c).After-from_byte) (simp (
+        lt-leb _ _ (enough l),
+        le-ltb _ _ (most l),
+        le-ltb _ _ (under (ceiling l) (tables l).from_byte-x.ensures.0 c.if-from_byte-x.false),
+      ));
+      within = omega arith;
+      bytes = small (goal.at.returns c).After-from_byte;
+    }

@@ -1,7 +1,6 @@
 -- `image_valid_code::command_bytes` meets its contract. Assumes nothing.
 use borrow.Author.Tests.{eq-eqb, ne_eqb, lt-ltb, le-ltb}
 use Rattle.image_valid_code.specs.Shape.{command_bytes}
-use borrow.Author.Rules.{rules}
 use Rattle.image_valid_code.proofs.command_bytes.Goals as goal
 
 pub returns-then-byte-eq80 : goal.returns-then-byte-eq80

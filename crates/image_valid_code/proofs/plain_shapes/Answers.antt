@@ -7,7 +7,6 @@ use mathlib.Core.Path.{◌≡◌, refl}
 use mathlib.Core.List.{List}
 use Rattle.image_valid_code.specs.Shape.{shape_of, Shapes}
 use Rattle.image_valid_code.proofs.Table.{every, at}
-use borrow.Author.Rules.{rules}
 use Rattle.image_valid_code.proofs.plain_shapes.Goals as goal
 
 -- an entry of the table is right

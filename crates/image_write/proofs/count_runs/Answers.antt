@@ -1,16 +1,14 @@
 -- `image_write::count_runs` meets its contract. Assumes nothing.
-use Prim.Native.Nat.{ℕ, ◌+◌, ◌*◌, ◌-◌, ◌≤◌, ◌<◌}
+use Prim.Native.Nat.{ℕ, ◌<◌}
 use mathlib.Core.Bool.{cond}
-use mathlib.Core.Path.{◌≡◌, refl, ap}
+use mathlib.Core.Path.{refl, ap}
 use native.Mathlib.Nat.{le_of_eq}
 use native.Mathlib.Omega.{arith}
 use lib.ListN.{length, get_or, get_or-replicate}
-use borrow.Author.Rules.{rules}
 use Rattle.model.specs.Rules.Reads.{due}
 use Rattle.text_program.specs.Tables.{rate_at}
-use Rattle.image_write.specs.Lists.{list_by}
 use Rattle.model.proofs.Basics.Left.{parts-length}
-use Rattle.image_write.proofs.Listed.{run-size, list_from, list-starts, list-step, list-ends}
+use Rattle.image_write.proofs.Listed.{run-size, list-starts, list-step, list-ends}
 use Rattle.image_write.proofs.count_runs.Goals as goal
 use Rattle.image_write.proofs.count_runs.Goals.{After-from_byte-x}
 
@@ -48,14 +46,6 @@ add_runs-requires c =
       l.loop-i.invariant.1,
       (λ d lt. omega (arith, l.loop-i.invariant.2 d lt, w.loop-i-test.true, s.requires.0.few)),
     )
-
-pub overflow_add-i : goal.overflow_add-i
-overflow_add-i c =
-    let w = c in
-    omega (arith, w.loop-i-test.true, w.requires.0.few)
-
-pub loop-i-smaller : goal.loop-i-smaller
-loop-i-smaller c = omega (arith, c.loop-i-test.true)
 
 pub loop-i-preserved : goal.loop-i-preserved
 loop-i-preserved c =

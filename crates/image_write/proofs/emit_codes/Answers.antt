@@ -1,15 +1,13 @@
 -- `image_write::emit_codes` meets its contract. Assumes nothing.
-use Prim.Native.Nat.{ℕ, ◌-◌, ◌≤◌, ◌<◌}
+use Prim.Native.Nat.{ℕ, ◌<◌}
 use mathlib.Core.List.{List}
 use mathlib.Core.Path.{◌≡◌, sym, ◌∙◌}
 use native.Mathlib.Omega.{arith}
-use borrow.Author.Rules.{rules}
 use lib.ListN.{length}
-use Rattle.model.specs.Rules.Image.{joined}
 use Rattle.model.specs.Rules.Program.{Signal}
-use Rattle.image_write.specs.Codes.{declared_by, codes_from}
-use Rattle.model.proofs.Basics.Left.{Left, starts, room, turn, done}
-use Rattle.image_write.proofs.Coded.{nth, codes_left, codes-start, codes-next, codes-end}
+use Rattle.image_write.specs.Codes.{declared_by}
+use Rattle.model.proofs.Basics.Left.{starts, room, turn, done}
+use Rattle.image_write.proofs.Coded.{nth, codes-start, codes-next, codes-end}
 use Rattle.image_write.proofs.emit_codes.Goals as goal
 use Rattle.image_write.proofs.emit_codes.Goals.{After-from_entry-place, After-to_byte-signal, Start}
 
@@ -56,12 +54,6 @@ emit_signal-end-requires c =
       here = record { signal = nth (g w) (x w); stands = stands w; spelled = (s w).requires.0.spelled (x w) (lt w) };
       fits = room (codes-next (g w) (x w) (within w)) (named w).loop-x.invariant.1 (s w).requires.1;
     })
-
-pub overflow_add-x : goal.overflow_add-x
-overflow_add-x c = let w = (goal.at.overflow_add-x c).After-from_entry-place in omega (arith, lt w, (s w).requires.0.few)
-
-pub loop-x-smaller : goal.loop-x-smaller
-loop-x-smaller c = omega (arith, lt (goal.at.loop-x-smaller c).After-from_entry-place)
 
 pub loop-x-preserved : goal.loop-x-preserved
 loop-x-preserved c =

@@ -1,15 +1,14 @@
 -- `image_write::emit_lists` meets its contract. Assumes nothing.
-use Prim.Native.Nat.{ℕ, ◌+◌, ◌-◌, ◌≤◌, ◌<◌}
+use Prim.Native.Nat.{ℕ, ◌+◌, ◌<◌}
 use mathlib.Core.List.{List}
-use mathlib.Core.Path.{◌≡◌, sym, subst}
+use mathlib.Core.Path.{sym, subst}
 use native.Mathlib.Omega.{arith}
-use borrow.Author.Rules.{rules}
 use lib.ListN.{length, get_or}
 use Rattle.model.specs.Rules.Image.{joined}
 use Rattle.model.specs.Rules.Reads.{due}
 use Rattle.model.specs.Rules.Writing.{Wrote}
 use Rattle.text_program.specs.Tables.{rate_at}
-use Rattle.image_write.specs.Cursors.{lists_after, Pending, Splits}
+use Rattle.image_write.specs.Cursors.{lists_after, Splits}
 use Rattle.image_write.specs.Lists.{list_by, lists_by}
 use Rattle.image_write.proofs.Cursors.{pending-same, pending-start, pending_done}
 use Rattle.image_write.proofs.Listed.{list_from, list-starts, list-step, list-ends}
@@ -89,14 +88,6 @@ emit_runs-requires c =
         splits = splits w;
       },
     )
-
-pub overflow_add-i : goal.overflow_add-i
-overflow_add-i c =
-    let w = (goal.at.overflow_add-i c).After-from_byte-signal in
-    omega (arith, lt w, (s w).requires.0.0.few)
-
-pub loop-i-smaller : goal.loop-i-smaller
-loop-i-smaller c = omega (arith, lt (goal.at.loop-i-smaller c).After-from_byte-signal)
 
 pub loop-i-preserved : goal.loop-i-preserved
 loop-i-preserved c =

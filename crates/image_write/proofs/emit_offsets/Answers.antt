@@ -1,28 +1,17 @@
 -- `image_write::emit_offsets` meets its contract. Assumes nothing.
-use Prim.Native.Nat.{ℕ, ◌+◌, ◌-◌, ◌≤◌, ◌<◌}
+use Prim.Native.Nat.{ℕ, ◌+◌, ◌≤◌, ◌<◌}
 use mathlib.Core.List.{List}
 use mathlib.Core.Path.{◌≡◌, refl, sym, ap, subst, ◌∙◌}
 use native.Mathlib.Omega.{arith}
-use lib.ListN.{length, get_or, length-set}
+use lib.ListN.{length, length-set}
 use lib.Seq.{get_or-set_same, get_or-set_other}
-use borrow.Author.Rules.{rules}
-use Rattle.model.specs.Rules.Image.{joined, offsets}
+use Rattle.model.specs.Rules.Image.{joined}
 use Rattle.model.specs.Rules.Word.{two_bytes}
 use Rattle.image_write.specs.Cursors.{Stands}
-use Rattle.image_write.specs.Lists.{list_by, lists_by, pairs}
-use Rattle.model.proofs.Basics.Left.{Left, parts-length, starts, room, turn, done, wrote-size}
-use Rattle.image_write.proofs.Cursors.{Prefix, prefix-start, prefix-stands, prefix-next, starts_more}
-use Rattle.image_write.proofs.Joined.{
-  joined_from,
-  pairs_from,
-  joined-starts,
-  joined_step,
-  joined-ends,
-  pairs_start,
-  pairs-step,
-  pairs-last,
-  lists-most,
-}
+use Rattle.image_write.specs.Lists.{list_by, lists_by}
+use Rattle.model.proofs.Basics.Left.{parts-length, starts, room, turn, done, wrote-size}
+use Rattle.image_write.proofs.Cursors.{prefix-start, prefix-stands, prefix-next, starts_more}
+use Rattle.image_write.proofs.Joined.{joined_from, joined-starts, joined_step, joined-ends, pairs_start, pairs-step, pairs-last, lists-most}
 use Rattle.image_write.proofs.emit_offsets.Goals as goal
 use Rattle.image_write.proofs.emit_offsets.Goals.{After-from_count-runs, At-loop-c, Start}
 
@@ -178,12 +167,6 @@ bounds-starts-c c = omega (arith, (start_of (goal.at.bounds-starts-c c).At-loop-
 
 pub overflow_add-before : goal.overflow_add-before
 overflow_add-before c = omega (arith, further c, few (goal.at.overflow_add-before c).Start)
-
-pub overflow_add-c : goal.overflow_add-c
-overflow_add-c c = omega (arith, lt c, (s c).requires.1.2)
-
-pub loop-c-smaller : goal.loop-c-smaller
-loop-c-smaller c = omega (arith, lt c)
 
 pub overflow_cast-starts-2 : goal.overflow_cast-starts-2
 overflow_cast-starts-2 c = omega (arith, small (goal.at.overflow_cast-starts-2 c).At-loop-c)

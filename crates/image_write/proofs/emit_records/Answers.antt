@@ -1,26 +1,14 @@
 -- `image_write::emit_records` meets its contract. Assumes nothing.
-use Prim.Native.Nat.{ℕ, ◌+◌, ◌-◌, ◌≤◌}
+use Prim.Native.Nat.{ℕ, ◌+◌, ◌≤◌}
 use mathlib.Core.List.{List}
 use mathlib.Core.Path.{◌≡◌, sym, ap, ◌∙◌}
 use native.Mathlib.Omega.{arith}
 use lib.ListN.{length, get_or}
-use borrow.Author.Rules.{rules}
-use Rattle.model.specs.Rules.Image.{offsets, records}
+use Rattle.model.specs.Rules.Image.{offsets}
 use Rattle.model.specs.Rules.Program.{Signal}
 use Rattle.image_write.specs.Codes.{declared_by, codes_from}
-use Rattle.model.proofs.Basics.Left.{Left, starts, room, turn, done}
-use Rattle.image_write.proofs.Coded.{
-  nth,
-  records_left,
-  records-start,
-  records-next,
-  records-at,
-  records-end,
-  initial-word,
-  record-length,
-  code-start,
-  starts-many,
-}
+use Rattle.model.proofs.Basics.Left.{starts, room, turn, done}
+use Rattle.image_write.proofs.Coded.{nth, records-start, records-next, records-at, records-end, initial-word, record-length, code-start, starts-many}
 use Rattle.image_write.proofs.emit_records.Goals as goal
 use Rattle.image_write.proofs.emit_records.Goals.{After-from_entry-code, After-from_entry-place, Start}
 
@@ -94,14 +82,6 @@ put_record-end-requires c =
             l.invariant.1 b.requires.3,
       ),
     )
-
-pub overflow_add-x : goal.overflow_add-x
-overflow_add-x c =
-    let w = (goal.at.overflow_add-x c).After-from_entry-code in
-    omega (arith, (s w).requires.0.few, w.loop-x-test.true)
-
-pub loop-x-smaller : goal.loop-x-smaller
-loop-x-smaller c = omega (arith, c.loop-x-test.true)
 
 pub loop-x-preserved : goal.loop-x-preserved
 loop-x-preserved c =

@@ -1,13 +1,11 @@
 -- `image_write::emit_runs` meets its contract. Assumes nothing.
-use Prim.Native.Nat.{ℕ, ◌+◌, ◌-◌, ◌<◌}
-use mathlib.Core.Bool.{true}
+use Prim.Native.Nat.{ℕ, ◌+◌, ◌<◌}
 use mathlib.Core.List.{List, ◌∷◌}
 use mathlib.Core.Path.{◌≡◌, sym, ap, ◌∙◌}
 use native.Mathlib.Omega.{arith}
-use borrow.Author.Rules.{rules}
-use lib.ListN.{length, length-set}
+use lib.ListN.{length, set, length-set}
 use Rattle.runs.proofs.Runs.{due-first, due-next}
-use Rattle.model.specs.Rules.Reads.{Rate, due}
+use Rattle.model.specs.Rules.Reads.{Rate}
 use Rattle.image_write.specs.Cursors.{Pending, Splits, Open}
 use Rattle.image_write.proofs.Cursors.{
   mixed,
@@ -83,7 +81,7 @@ pub loop-c-init : goal.loop-c-init
 loop-c-init c =
     let b = c in
     let r = rate b.args.period b.args.phase in (
-      c.from_byte-step.ensures.0,
+      c.from_byte-c-step.ensures.0,
       b.requires.2,
       rw c.from_byte-c.ensures.0 (due-first r b.requires.0),
       λ all l after old new p q.
@@ -100,19 +98,36 @@ bounds-nexts-c c = omega (arith, c.requires.1)
 pub overflow_add-out : goal.overflow_add-out
 overflow_add-out c = omega (arith, inside c, (pending c).size, (begun c).pending.size)
 
-pub overflow_add-c : goal.overflow_add-c
-overflow_add-c c = omega (arith, lt c, (s c).requires.1, (top c).loop-c.invariant.0)
+-- what is written of the cycles up to the next run
+written : (w : After-from_entry-at) → ((all l : List ℕ) (after : ℕ → ℕ) (old new : ℕ → List ℕ) →
+    Pending all l (s w).args.to (s w).args.h after old (s w).args.out.now (s w).args.nexts.now → Splits (a w) (s w).args.x (s w).args.h old new →
+    Pending all l (s w).args.to (s w).args.h after (mixed old new (c w + (a w).period))
+    (set (top w).loop-c.out ((s w).args.to + w.from_entry-at.result) (s w).args.x)
+    (set (top w).loop-c.nexts (c w) (w.from_entry-at.result + 1)))
+written w all k after old new p q =
+    let l = (top w).loop-c in
+    pending-written (l.invariant.3 all k after old new p q) l.c (s w).args.x (lt w) (first w old new q)
+    (others w old new q) (room w) w.from_entry-at.result w.from_entry-at.ensures.0
 
 pub loop-c-preserved : goal.loop-c-preserved
-loop-c-preserved w =
+loop-c-preserved g =
+    let w = (goal.at.loop-c-preserved g).After-from_entry-at in
     let l = (top w).loop-c in (
       l.invariant.0,
       length-set l.nexts l.c _ ∙ l.invariant.1,
       rw l.invariant.0 (due-next (a w) (v w) l.c l.invariant.2),
       λ all k after old new p q.
-          pending-same (λ d ld. ap (λ (j : ℕ). mixed old new (l.c + j) d) (sym l.invariant.0))
-          (pending-written (l.invariant.3 all k after old new p q) l.c (s w).args.x (lt w) (first w old new q)
-          (others w old new q) (room w) w.from_entry-at.result w.from_entry-at.ensures.0),
+          pending-same (λ d ld. ap (λ (j : ℕ). mixed old new (l.c + j) d) (sym l.invariant.0)) (written w all k after old new p q),
+    )
+
+pub returns-2 : goal.returns-2
+returns-2 g =
+    let w = (goal.at.returns-2 g).After-from_entry-at in
+    let l = (top w).loop-c in (
+      length-set l.nexts l.c _ ∙ l.invariant.1,
+      λ all k after old new p q.
+          pending-same (last-mixed (a w) (v w) (s w).args.x (s w).args.h old new q (l.c + (a w).period) (omega (arith, l.invariant.0)))
+          (written w all k after old new p q),
     )
 
 pub shape_of-out : goal.shape_of-out
@@ -143,9 +158,6 @@ offset_bounds-nexts-c-in-loop-c c = omega (arith, lt c, (s c).requires.1)
 
 pub bounds-nexts-c-in-loop-c : goal.bounds-nexts-c-in-loop-c
 bounds-nexts-c-in-loop-c c = omega (arith, lt c, (s c).requires.1)
-
-pub loop-c-smaller : goal.loop-c-smaller
-loop-c-smaller c = omega (arith, lt c, v c, (top c).loop-c.invariant.0)
 
 pub bounds-out-to : goal.bounds-out-to
 bounds-out-to c = inside c

@@ -1,25 +1,12 @@
 -- `image_write::emit_runs` meets its contract. Assumes nothing.
-use Prim.Native.Nat.{ℕ, ◌+◌, ◌-◌, ◌<◌}
+use Prim.Native.Nat.{ℕ}
 use mathlib.Core.Bool.{true}
-use mathlib.Core.List.{List, ◌∷◌}
-use mathlib.Core.Path.{◌≡◌, sym, ap, ◌∙◌}
-use native.Mathlib.Omega.{arith}
-use borrow.Author.Rules.{rules}
-use lib.ListN.{length, length-set}
-use Rattle.runs.proofs.Runs.{due-first, due-next}
+use mathlib.Core.List.{List}
+use mathlib.Core.Path.{◌≡◌}
+use lib.ListN.{length}
 use Rattle.model.specs.Rules.Reads.{Rate, due}
-use Rattle.image_write.specs.Cursors.{Pending, Splits, Open}
-use Rattle.image_write.proofs.Cursors.{
-  mixed,
-  first-mixed,
-  last-mixed,
-  run-first,
-  others-mixed,
-  pending-same,
-  entry-inside,
-  entry-small,
-  pending-written,
-}
+use Rattle.image_write.specs.Cursors.{Pending, Splits}
+use Rattle.image_write.proofs.Cursors.{mixed}
 use Rattle.image_write.proofs.emit_runs.Given as goal
 
 abbrev pub rate : ℕ → ℕ → Rate
@@ -27,9 +14,6 @@ rate period phase = record { period = period; phase = phase }
 
 abbrev pub invariant-loop-c : goal.invariant-loop-c
 invariant-loop-c v =
-    (v.step ≡ v.period) × (length v.nexts ≡ 241) × (due (rate v.period v.phase) v.c ≡ true) ×
+    (v.c-step ≡ v.period) × (length v.nexts ≡ 241) × (due (rate v.period v.phase) v.c ≡ true) ×
     ((all l : List ℕ) (after : ℕ → ℕ) (old new : ℕ → List ℕ) → Pending all l v.to v.h after old v.initial.out v.initial.nexts →
     Splits (rate v.period v.phase) v.x v.h old new → Pending all l v.to v.h after (mixed old new v.c) v.out v.nexts)
-
-abbrev pub decreases-loop-c : goal.decreases-loop-c
-decreases-loop-c l = l.h - l.c

@@ -8,7 +8,6 @@ use Rattle.model.proofs.Rows.Area.{sorted-bytes}
 use Rattle.rows.specs.Rows.{text_rows}
 use Rattle.rows.proofs.Loops.{text-length}
 use Rattle.image_write.specs.Rows.{table_by}
-use borrow.Author.Rules.{rules}
 use Rattle.image_write.proofs.emit_table.Goals as goal
 use Rattle.image_write.proofs.emit_table.Goals.{After-emit_rows}
 

@@ -1,11 +1,11 @@
 -- `image_write::emit_tail` meets its contract. Assumes nothing.
-use Prim.Native.Nat.{ℕ, ◌-◌, ◌≤◌}
+use Prim.Native.Nat.{ℕ}
 use mathlib.Core.List.{List}
 use native.Mathlib.Omega.{arith}
 use Rattle.model.specs.Rules.Word.{two_bytes}
 use Rattle.image_write.specs.Tail.{entry_by, tail_by}
-use Rattle.image_write.proofs.Joined.{joined_from, joined-starts, joined_step, joined-ends}
-use Rattle.model.proofs.Basics.Left.{Left, starts, room, turn, done}
+use Rattle.image_write.proofs.Joined.{joined-starts, joined_step, joined-ends}
+use Rattle.model.proofs.Basics.Left.{starts, room, turn, done}
 use Rattle.image_write.proofs.emit_tail.Goals as goal
 use Rattle.image_write.proofs.emit_tail.Goals.{After-slice_known-in-loop-x-1, At-loop-x, In-loop-x, Start}
 
@@ -38,9 +38,6 @@ put_entry-end-requires c =
 abbrev turned : After-slice_known-in-loop-x-1 → In-loop-x
 turned c = (goal.at.After-slice_known-in-loop-x-1 c).In-loop-x
 
-pub overflow_add-x : goal.overflow_add-x
-overflow_add-x c = omega (arith, (turned c).loop-x-test.true, (start (goal.at.overflow_add-x c).At-loop-x).requires.0)
-
 pub loop-x-preserved : goal.loop-x-preserved
 loop-x-preserved c =
     let t = c in
@@ -62,9 +59,6 @@ offset_bounds-labels-x c = omega (arith, (start (goal.at.offset_bounds-labels-x 
 
 pub bounds-labels-x : goal.bounds-labels-x
 bounds-labels-x c = omega (arith, (start (goal.at.bounds-labels-x c).At-loop-x).requires.0)
-
-pub loop-x-smaller : goal.loop-x-smaller
-loop-x-smaller c = omega (arith, (turned c).loop-x-test.true)
 
 pub shape_of-out : goal.shape_of-out
 shape_of-out c = c.loop-x.invariant.1.size

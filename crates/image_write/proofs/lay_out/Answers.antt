@@ -2,7 +2,6 @@
 use Prim.Native.Nat.{◌≤◌}
 use mathlib.Core.Path.{sym, ◌∙◌}
 use native.Mathlib.Omega.{arith}
-use borrow.Author.Rules.{rules}
 use Rattle.text_schedule.proofs.Arranged.{short-hypercycle}
 use Rattle.image_write.proofs.Imaged.{
   count-is,

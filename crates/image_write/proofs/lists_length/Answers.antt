@@ -1,5 +1,5 @@
 -- `image_write::lists_length` meets its contract. Assumes nothing.
-use Prim.Native.Nat.{◌+◌, ◌-◌, ◌≤◌}
+use Prim.Native.Nat.{◌+◌}
 use mathlib.Core.Path.{◌≡◌}
 use native.Mathlib.Omega.{arith}
 use lib.ListN.{length}
@@ -47,9 +47,6 @@ overflow_add-total c =
           s.args.h s.requires.0.few,
       s.requires.2,
     )
-
-pub overflow_add-i : goal.overflow_add-i
-overflow_add-i c = omega (arith, c.requires.0.few)
 
 pub returns : goal.returns
 returns c =

@@ -8,7 +8,6 @@ use lib.ListN.{length, set, length-set}
 use Rattle.model.specs.Rules.Word.{two_bytes}
 use Rattle.model.specs.Rules.Writing.{Wrote}
 use Rattle.model.proofs.Basics.Left.{after, wrote-size}
-use borrow.Author.Rules.{rules}
 use Rattle.image_write.proofs.put_entry.Goals as goal
 use Rattle.image_write.proofs.put_entry.Goals.{After-slice_known-2-1, Start}
 

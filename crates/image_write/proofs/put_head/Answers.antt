@@ -3,7 +3,6 @@ use native.Mathlib.Omega.{arith}
 use mathlib.Core.Path.{◌∙◌}
 use lib.ListN.{length-set}
 use Rattle.model.proofs.Basics.Left.{wrote-size}
-use borrow.Author.Rules.{rules}
 use Rattle.image_write.proofs.put_head.Goals as goal
 
 pub shape_of-out : goal.shape_of-out

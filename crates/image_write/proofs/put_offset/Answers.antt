@@ -1,7 +1,6 @@
 -- `image_write::put_offset` meets its contract. Assumes nothing.
 use mathlib.Core.Path.{refl}
 use Rattle.model.specs.Rules.Word.{two_bytes}
-use borrow.Author.Rules.{rules}
 use Rattle.image_write.proofs.put_offset.Goals as goal
 
 pub returns : goal.returns

@@ -4,7 +4,6 @@ use mathlib.Core.Path.{◌≡◌}
 use native.Mathlib.Numerals.{add-one}
 use native.Mathlib.Omega.{arith}
 use lib.ListN.{get_or}
-use borrow.Author.Rules.{rules}
 use Rattle.model.specs.Rules.Reads.{stored}
 use Rattle.image_write.proofs.run_count.Goals as goal
 use Rattle.image_write.proofs.run_count.Goals.{After-from_byte-phase}

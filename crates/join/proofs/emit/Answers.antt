@@ -10,13 +10,12 @@ use Rattle.image_write.proofs.Written.{image-first, tail-room, all-written}
 use Rattle.join.proofs.Joining.{join-left}
 use Rattle.join.proofs.Wires.{wires-inside}
 use Rattle.join.proofs.Written.{joined_program, joined_schedule, joining, few, tail-is, laid_out, image-is, fits}
-use borrow.Author.Rules.{rules}
 use Rattle.join.proofs.emit.Goals as goal
 use Rattle.join.proofs.emit.Goals.{After-emit_image, After-sources_of-sources, Start}
 
 -- the layout is that of the joined pair
 laid : (s : Start) →
-    LaidOut (joined_program s.requires.0) (joined_schedule s.requires.0) s.args.verdict.hypercycle s.args.layout
+    LaidOut (joined_program s.requires.0) (joined_schedule s.requires.0) s.args.verdict.now.hypercycle s.args.layout
 laid s = laid_out s.requires.0 s.requires.1
 
 pub sources_of-sources-requires : goal.sources_of-sources-requires
@@ -41,7 +40,7 @@ sourced i = (goal.at.After-emit_image i).After-sources_of-sources
 image-left : (i : After-emit_image) → let s = i in
     let p = joined_program s.requires.0 in
     let q = joined_schedule s.requires.0 in
-    let h = s.args.verdict.hypercycle in
+    let h = s.args.verdict.now.hypercycle in
     i.emit_image.new.out ≡ image_of p q h ++ drop (length_of p q h) s.args.image.now
 image-left i =
     let k = (goal.at.After-emit_image i).After-sources_of-sources in

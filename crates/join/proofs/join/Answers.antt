@@ -1,46 +1,54 @@
 -- `join::join` meets its contract. Assumes nothing.
-use mathlib.Core.Path.{sym, ◌∙◌}
-use Rattle.basics.proofs.Judgements.{answers-fine, answers-refused}
-use Rattle.join_verdict.proofs.InOrder.{none-parts}
+use Rattle.std.specs.Prelude.{None}
+use mathlib.Core.Path.{◌≡◌, sym, ap, ◌∙◌}
+use Rattle.model.specs.Rules.Join.{joined_of, without_part, part_in, part_named}
+use Rattle.model.specs.Rules.Outcome.{yielded_of}
+use Rattle.basics.proofs.Judgements.{answers-ok, answers-refused}
+use Rattle.join_verdict.proofs.InOrder.{handed, none-parts}
 use Rattle.join.specs.Ready.{JoinReady}
 use Rattle.join.proofs.Joining.{join-refused}
 use Rattle.join.proofs.Written.{lents}
-use borrow.Author.Rules.{rules}
 use Rattle.join.proofs.join.Goals as goal
-use Rattle.join.proofs.join.Goals.{After-check_join-verdict, In-Fine, Start}
+use Rattle.join.proofs.join.Goals.{In_ok-verdict}
 
-abbrev begun : After-check_join-verdict → Start
-begun k = (goal.at.After-check_join-verdict k).Start
-
-pub returns-in_default : goal.returns-in_default
-returns-in_default c =
-    let told = c.in_default.is in
-    let v = c.check_join-verdict.ensures in
-    let r = c.refused.ensures _ told in
-    let g = join-refused _ _ _ _ _ (answers-refused _ _ _ _ v.answer told) in
+pub returns-in_err-verdict : goal.returns-in_err-verdict
+returns-in_err-verdict c =
+    let v = c.check_join.ensures in
+    let h = handed _ c.from_residual.ensures.1 in
+    let g = join-refused _ _ _ _ _ (answers-refused _ _ _ _ v.answer (ap without_part c.in_err-verdict.was)) in
     record {
-      answer = r.0 ∙ g.0;
+      answer = ap joined_of h ∙ g.0;
       left = g.1;
-      part = r.1 ∙ sym v.part;
+      part = ap part_in h ∙ sym (ap part_in c.in_err-verdict.was) ∙ sym v.part;
     }
 
--- the verdict is fine
-ready : (e : In-Fine) → let k = (goal.at.In-Fine e).After-check_join-verdict in let a = (begun k).args in
-    JoinReady a.texts.now a.numbers.now a.links.now k.check_join-verdict.result
+-- The verdict is fine, and names no part.
+ready : (e : In_ok-verdict) → JoinReady e.args.texts.now e.args.numbers.now e.args.links.now e.in_ok-verdict.verdict
 ready e =
-    let q = answers-fine _ _ _ e.check_join-verdict.ensures.answer e.in-Fine.is in
+    let q = answers-ok _ _ _ _ e.check_join.ensures.answer (ap without_part e.in_ok-verdict.was) in
     record { pair = q.0; accepts = q.1; checks = q.2 }
+
+none : (e : In_ok-verdict) → None ≡ part_named e.args.texts.now e.args.numbers.now
+none e = let r = ready e in sym (none-parts _ _ r.checks.parts (lents r) r.checks.checked)
+
+pub write-requires : goal.write-requires
+write-requires c = ready (goal.at.write-requires c).In_ok-verdict
+
+pub returns-in_err-written : goal.returns-in_err-written
+returns-in_err-written c =
+    let w = c.write.ensures in
+    let h = handed _ c.from_residual-in_err-written.ensures.1 in
+    record {
+      answer = ap joined_of h ∙ sym (ap yielded_of c.in_err-written.was) ∙ w.answer;
+      left = w.left;
+      part = ap part_in h ∙ none (goal.at.returns-in_err-written c).In_ok-verdict;
+    }
 
 pub returns : goal.returns
 returns c =
-    let d = c in
-    let r = ready (goal.at.returns d).In-Fine in
-    let w = d.write.ensures in
+    let w = c.write.ensures in
     record {
-      answer = w.answer;
+      answer = sym (ap yielded_of c.in_ok-written.was) ∙ w.answer;
       left = w.left;
-      part = w.part ∙ sym (none-parts _ _ r.checks.parts (lents r) r.checks.checked);
+      part = none (goal.at.returns c).In_ok-verdict;
     }
-
-pub write-requires : goal.write-requires
-write-requires c = ready (goal.at.write-requires c).In-Fine

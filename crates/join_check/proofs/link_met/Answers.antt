@@ -3,7 +3,6 @@ use Prim.Native.Nat.{ℕ, ◌<◌}
 use mathlib.Core.Path.{◌≡◌, sym, ap, ap₂, ◌∙◌}
 use native.Mathlib.Nat.{add_assoc}
 use native.Mathlib.Omega.{arith}
-use borrow.Author.Rules.{rules}
 use lib.Dec.{ltb}
 use lib.ListN.{get_or}
 use Rattle.model.specs.declared.Index.TheVariants.{Fixed}
@@ -24,7 +23,7 @@ module _ (k : After-number_of-w) where
   abbrev start : Start
   start = (goal.at.After-number_of-w k).Start
 
-  source : k.number_of-w.result ≡ source_at start.args.links.now start.args.at start.args.bases.now
+  source : k.number_of-w.result ≡ source_at start.args.links.now start.args.at start.args.joint.now.bases
   source = rw (add_assoc start.args.at 2 1) at k.number_of-w.ensures
 
   source-below : k.number_of-w.result < 64
@@ -34,9 +33,9 @@ pub returns : goal.returns
 returns c =
     let k = (goal.at.returns c).After-number_of-w in
     let s = c in
-    let periods = s.args.periods.now in
-    let phases = s.args.phases.now in
-    let ranks = s.args.ranks.now in
+    let periods = s.args.joint.now.periods in
+    let phases = s.args.joint.now.phases in
+    let ranks = s.args.joint.now.ranks in
     let r = k.number_of-r.ensures in
     let w = source k in
     λ q.
@@ -52,11 +51,5 @@ returns c =
     met_by Now (record { signal = 0; factor = 1; index = Fixed 0 }) (rate_at periods phases n) (rate_at periods phases m)
     (ltb (get_or ranks n 0) (get_or ranks m 0))) r w
 
-pub bounds-periods-w : goal.bounds-periods-w
-bounds-periods-w c = source-below (goal.at.bounds-periods-w c).After-number_of-w
-
-pub bounds-phases-w : goal.bounds-phases-w
-bounds-phases-w c = source-below (goal.at.bounds-phases-w c).After-number_of-w
-
-pub bounds-ranks-w : goal.bounds-ranks-w
-bounds-ranks-w c = source-below (goal.at.bounds-ranks-w c).After-number_of-w
+pub bounds-joint-w : goal.bounds-joint-w
+bounds-joint-w c = source-below (goal.at.bounds-joint-w c).After-number_of-w

@@ -1,27 +1,14 @@
 -- `join_check::links_met` meets its contract. Assumes nothing.
-use Prim.Native.Nat.{ℕ, suc, ◌+◌, ◌-◌, ◌*◌, ◌≤◌, ◌<◌}
-use mathlib.Core.Bool.{Bool, true, false, cond}
+use Prim.Native.Nat.{ℕ}
+use mathlib.Core.Bool.{cond}
 use mathlib.Core.List.{List, [], ◌∷◌}
-use mathlib.Core.Path.{◌≡◌, refl, sym, ap, ◌∙◌}
-use native.Mathlib.Omega.{arith}
-use borrow.Author.Rules.{rules}
-use borrow.Author.Tests.{not-true, not-false}
-use lib.ListN.{length, get_or}
-use Rattle.model.specs.Rules.Join.{link_at, links_in, links_of, links_met}
-use Rattle.model.specs.Rules.Outcome.{fault, lowest}
+use Rattle.model.specs.Rules.Join.{links_of, links_met}
+use Rattle.model.specs.Rules.Outcome.{fault}
 use Rattle.model.specs.Rules.Parts.{Part, PartLink, wire_of, wire_read, joined_pair}
 use Rattle.model.specs.Rules.Reads.{is_met}
-use Rattle.model.specs.Says.Feasible.{All}
 use Rattle.model.specs.declared.Fault.{Fault}
-use Rattle.model.proofs.Basics.Outcomes.{table-length, table_at}
-use Rattle.basics.specs.Judgement.{judgement_of}
-use Rattle.basics.specs.declared.Judged.{Judged}
-use Rattle.basics.specs.declared.Judged.TheVariants as Judged
-use Rattle.text_program.proofs.InTurn.{Left, check-starts, check-passes, check-refuses, check-ends, single-at}
-use Rattle.model.proofs.Joining.Lent.{link-in, link-out}
-use Rattle.join_links.proofs.Right.{quarter}
-use Rattle.join_check.specs.Met.{Linking, link_met_by}
-use Rattle.join_check.proofs.Numbered.{link-inside, equal-periods, met-is, links-turn}
+use Rattle.text_program.proofs.InTurn.{Left}
+use Rattle.join_check.specs.Met.{JointLinking}
 use Rattle.join_check.proofs.links_met.Given as goal
 
 -- The fault of a link, where there is one.
@@ -37,10 +24,5 @@ Rest parts links i =
     Left (λ (l : PartLink). l.place ∷ []) (λ j l. link_fault parts (links_of links) l) (links_met parts (links_of links))
     (links_of links) i
 
-abbrev pub invariant-loop-at : goal.invariant-loop-at
-invariant-loop-at l =
-    (i : ℕ) × (l.at ≡ 4 * i) × (l.at ≤ length l.links) ×
-    ((parts : List Part) → Linking parts l.links l.bases l.periods l.phases l.ranks → Rest parts l.links i)
-
-abbrev pub decreases-loop-at : goal.decreases-loop-at
-decreases-loop-at l = length l.links - l.at
+abbrev pub invariant-loop-i : goal.invariant-loop-i
+invariant-loop-i l = (parts : List Part) → JointLinking parts l.links l.joint → Rest parts l.links l.i

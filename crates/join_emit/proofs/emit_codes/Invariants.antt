@@ -1,19 +1,12 @@
 -- `join_emit::emit_codes` meets its contract. Assumes nothing.
-use Prim.Native.Nat.{ℕ, ◌-◌, ◌≤◌}
-use mathlib.Core.List.{List}
-use native.Mathlib.Omega.{arith}
 use Rattle.model.specs.Rules.Image.{joined}
 use Rattle.model.specs.Rules.Search.{table}
-use Rattle.model.proofs.Basics.Left.{Left, starts, room, turn, done}
-use Rattle.image_write.proofs.Joined.{joined_from, joined-starts, joined_step, joined-ends}
-use Rattle.join_gather.proofs.Lent.{kept}
+use Rattle.model.proofs.Basics.Left.{Left}
+use Rattle.image_write.proofs.Joined.{joined_from}
 use Rattle.join_emit.specs.Parts.{codes_of}
 use Rattle.join_emit.proofs.emit_codes.Given as goal
 
 abbrev pub invariant-loop-k : goal.invariant-loop-k
 invariant-loop-k l =
-    let f = codes_of l.texts l.numbers l.bases l.sources in
-    Left l.initial.out l.to (joined (table l.parts f)) l.out l.end (joined_from f l.parts l.k)
-
-abbrev pub decreases-loop-k : goal.decreases-loop-k
-decreases-loop-k l = l.parts - l.k
+    let f = codes_of l.texts l.numbers l.joint.bases l.sources in
+    Left l.initial.out l.to (joined (table l.joint.parts f)) l.out l.end (joined_from f l.joint.parts l.k)

@@ -1,4 +1,5 @@
 -- `join_emit::emit_image` meets its contract. Assumes nothing.
+use Rattle.std.specs.Prelude.{Option}
 use Prim.Native.Nat.{ℕ, ◌+◌, ◌*◌, ◌≤◌}
 use mathlib.Core.List.{List, [], ◌∷◌, ◌++◌}
 use mathlib.Core.Path.{◌≡◌, refl}
@@ -12,37 +13,36 @@ use Rattle.join_gather.specs.declared.Joint.{Joint}
 use Rattle.join_gather.specs.declared.Table.{Table}
 use Rattle.join_rows.proofs.Stand.{bytes-long}
 use Rattle.join_emit.specs.Image.{joint_runs, joint_rows, joint_codes, joint_codes_at, joint_records, joint_image}
-use borrow.Author.Rules.{rules}
 use Rattle.join_emit.proofs.emit_image.Goals as goal
 use Rattle.join_emit.proofs.emit_image.Goals.{After-emit_codes, After-emit_records-offsets, After-emit_rows-codes, After-emit_run_lists-rows, After-put_head-records, Start}
 
 -- the parts of the image
 module _ (s : Start) where
-  abbrev by : {A : Type 0} → (List ℕ → List ℕ → Joint → Table → List ℕ → ℕ → A) → A
-  by f = f s.args.texts.now s.args.numbers.now s.args.joint s.args.table s.args.sources.now s.args.h
+  abbrev by : {A : Type 0} → (List ℕ → List ℕ → Joint → Table → List (Option ℕ) → ℕ → A) → A
+  by f = f s.args.texts.now s.args.numbers.now s.args.joint.now s.args.table.now s.args.sources.now s.args.h
 
   abbrev recorded : List ℕ
   recorded = by joint_records
 
   abbrev runs : List ℕ
-  runs = joint_runs s.args.joint s.args.h (lists_at s.args.joint.signals s.args.h)
+  runs = joint_runs s.args.joint.now s.args.h (lists_at s.args.joint.now.signals s.args.h)
 
   abbrev rows : List ℕ
   rows = by joint_rows
 
   abbrev codes : List ℕ
-  codes = by joint_codes
+  codes = joint_codes s.args.texts.now s.args.numbers.now s.args.joint.now s.args.sources.now
 
   abbrev first : List ℕ
-  first = s.args.h ∷ s.args.joint.signals ∷ two_bytes (by joint_codes_at + length codes)
+  first = s.args.h ∷ s.args.joint.now.signals ∷ two_bytes (by joint_codes_at + length codes)
 
   -- what is left of it
   abbrev Rest : List ℕ → ℕ → List ℕ → Type 0
   Rest out to rest = Left s.args.out.now 0 (by joint_image) out to rest
 
   -- the layout
-  rows_long : length rows ≡ 1 + 12 * s.args.table.rows
-  rows_long = bytes-long s.args.texts.now s.args.numbers.now s.args.table s.requires.rows-ready
+  rows_long : length rows ≡ 1 + 12 * s.args.table.now.rows
+  rows_long = bytes-long s.args.texts.now s.args.numbers.now s.args.table.now s.requires.rows-ready
 
   code_at : s.args.layout.code ≡ by joint_codes_at
   code_at = omega (arith, s.requires.laid_out.code_at, rows_long)

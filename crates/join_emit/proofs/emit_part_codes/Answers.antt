@@ -1,10 +1,8 @@
 -- `join_emit::emit_part_codes` meets its contract. Assumes nothing.
-use Prim.Native.Nat.{◌-◌, ◌≤◌}
 use native.Mathlib.Omega.{arith}
-use borrow.Author.Rules.{rules}
-use Rattle.model.proofs.Basics.Left.{Left, starts, room, turn, done}
-use Rattle.image_write.proofs.Joined.{joined_from, joined_step, joined-ends}
-use Rattle.join_emit.specs.Parts.{declared_as, code_as, part_codes}
+use Rattle.model.proofs.Basics.Left.{starts, room, turn, done}
+use Rattle.image_write.proofs.Joined.{joined_step, joined-ends}
+use Rattle.join_emit.specs.Parts.{declared_as, code_as}
 use Rattle.join_emit.proofs.Parted.{codes-left, here, code_wrote}
 use Rattle.join_emit.proofs.emit_part_codes.Goals as goal
 
@@ -36,14 +34,6 @@ emit_joined-end-requires c =
       here s.requires.0 l.invariant.0 t.loop-x-test.true a.sources.now w.from_entry-place.ensures.0
           (room (joined_step f a.last l.x t.loop-x-test.true) l.invariant.1 s.requires.1),
     )
-
-pub overflow_add-x : goal.overflow_add-x
-overflow_add-x c =
-    let t = c in
-    omega (arith, t.requires.0.few, t.loop-x-test.true)
-
-pub loop-x-smaller : goal.loop-x-smaller
-loop-x-smaller c = omega (arith, c.loop-x-test.true)
 
 pub loop-x-preserved : goal.loop-x-preserved
 loop-x-preserved c =

@@ -1,10 +1,8 @@
 -- `join_emit::emit_part_records` meets its contract. Assumes nothing.
-use Prim.Native.Nat.{◌-◌, ◌≤◌}
 use native.Mathlib.Omega.{arith}
-use borrow.Author.Rules.{rules}
-use Rattle.model.proofs.Basics.Left.{Left, starts, room, turn, done}
-use Rattle.image_write.proofs.Joined.{joined_from, joined_step, joined-ends}
-use Rattle.join_emit.specs.Parts.{record_as, part_records}
+use Rattle.model.proofs.Basics.Left.{starts, room, turn, done}
+use Rattle.image_write.proofs.Joined.{joined_step, joined-ends}
+use Rattle.join_emit.specs.Parts.{record_as}
 use Rattle.join_emit.proofs.Parted.{records-left, record-here, record_is, record-length}
 use Rattle.join_emit.proofs.emit_part_records.Goals as goal
 
@@ -50,14 +48,6 @@ put_record-end-requires c =
         room (joined_step f a.last l.x t.loop-x-test.true) l.invariant.1 s.requires.2,
       ),
     )
-
-pub overflow_add-x : goal.overflow_add-x
-overflow_add-x c =
-    let t = c in
-    omega (arith, t.requires.0.few, t.loop-x-test.true)
-
-pub loop-x-smaller : goal.loop-x-smaller
-loop-x-smaller c = omega (arith, c.loop-x-test.true)
 
 pub loop-x-preserved : goal.loop-x-preserved
 loop-x-preserved c =

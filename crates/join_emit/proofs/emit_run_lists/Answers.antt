@@ -13,7 +13,7 @@ use Rattle.join_emit.proofs.emit_run_lists.Goals.{After-emit_lists, After-emit_o
 -- the lists, and the offsets before them
 module _ (s : Start) where
   abbrev lists : List (List ℕ)
-  lists = joint_lists s.args.joint s.args.h
+  lists = joint_lists s.args.joint.now s.args.h
 
   abbrev paired : List ℕ
   paired = pairs (offsets s.args.start lists)
@@ -21,7 +21,7 @@ module _ (s : Start) where
   -- what is left of both
   abbrev Rest : List ℕ → ℕ → List ℕ → Type 0
   Rest out to rest =
-      Left s.args.out.now s.args.to (joint_runs s.args.joint s.args.h s.args.start) out to rest
+      Left s.args.out.now s.args.to (joint_runs s.args.joint.now s.args.h s.args.start) out to rest
 
 abbrev begun : After-emit_offsets-lists → Start
 begun o = (goal.at.After-emit_offsets-lists o).Start

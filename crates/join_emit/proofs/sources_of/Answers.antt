@@ -1,12 +1,12 @@
 -- `join_emit::sources_of` meets its contract. Assumes nothing.
-use Prim.Native.Nat.{ℕ, ◌-◌, ◌*◌, ◌/◌, ◌≤◌}
+use Prim.Native.Nat.{ℕ, ◌-◌, ◌*◌, ◌/◌}
 use mathlib.Core.Path.{◌≡◌, refl, ◌∙◌}
 use native.Mathlib.Nat.{add_assoc}
 use native.Mathlib.Omega.{arith}
 use lib.ListN.{length, length-set}
 use Rattle.join_check.specs.Met.{LinkInside}
 use Rattle.join_emit.specs.Sources.{wire_by}
-use Rattle.join_emit.proofs.Sourced.{SourcesFrom, sources-start, sources_next, sources-all}
+use Rattle.join_emit.proofs.Sourced.{sources-start, sources_next, sources-all}
 use Rattle.join_emit.proofs.sources_of.Goals as goal
 use Rattle.join_emit.proofs.sources_of.Goals.{In-loop-i, Start}
 
@@ -19,15 +19,12 @@ module _ (t : In-loop-i) where
   i = t.loop-i.i - 1
 
   inside : LinkInside s.args.links.now (4 * i) s.args.bases.now
-  inside = s.requires i (omega (arith, t.loop-i.invariant.0, t.loop-i-test.true))
+  inside = s.requires i (omega (arith, t.loop-i.auto.i, t.loop-i-test.true))
 
 pub loop-i-init : goal.loop-i-init
 loop-i-init c =
     let s = c in
-    (omega arith, refl, sources-start (wire_by s.args.links.now s.args.bases.now) (length s.args.links.now / 4))
-
-pub overflow_sub-i : goal.overflow_sub-i
-overflow_sub-i c = omega (arith, c.loop-i-test.true)
+    (refl, sources-start (wire_by s.args.links.now s.args.bases.now) (length s.args.links.now / 4))
 
 pub overflow_mul-at : goal.overflow_mul-at
 overflow_mul-at c = omega (arith, (inside c).whole, (s c).well_formed.0.1)
@@ -51,10 +48,7 @@ to_byte-requires c =
 pub bounds-sources-r : goal.bounds-sources-r
 bounds-sources-r c =
     let t = (goal.at.bounds-sources-r c).In-loop-i in
-    omega (arith, c.number_of-r.ensures, (inside t).reader, t.loop-i.invariant.1)
-
-pub loop-i-smaller : goal.loop-i-smaller
-loop-i-smaller c = omega (arith, c.loop-i-test.true)
+    omega (arith, c.number_of-r.ensures, (inside t).reader, t.loop-i.invariant.0)
 
 pub loop-i-preserved : goal.loop-i-preserved
 loop-i-preserved c =
@@ -64,11 +58,10 @@ loop-i-preserved c =
     let w : c.to_byte.result ≡ (f (i t)).signal =
     c.to_byte.ensures ∙ (rw (add_assoc (4 * i t) 2 1) at c.number_of-w.ensures) in
     let r : c.number_of-r.result ≡ (f (i t)).input = c.number_of-r.ensures in (
-      omega (arith, l.invariant.0),
-      length-set l.sources _ _ ∙ l.invariant.1,
+      length-set l.sources _ _ ∙ l.invariant.0,
       rw (w, r)
-          (sources_next f (length (s t).args.links.now / 4) l.i l.sources t.loop-i-test.true l.invariant.0 l.invariant.1
-          (inside t).reader l.invariant.2),
+          (sources_next f (length (s t).args.links.now / 4) l.i l.sources t.loop-i-test.true l.auto.i l.invariant.0
+          (inside t).reader l.invariant.1),
     )
 
 pub returns : goal.returns
@@ -76,4 +69,4 @@ returns c =
     let l = c.loop-i in
     let s = c in
     sources-all (wire_by s.args.links.now s.args.bases.now) (length s.args.links.now / 4) l.i l.sources
-    (omega (arith, c.loop-i-test.false)) l.invariant.2
+    (omega (arith, c.loop-i-test.false)) l.invariant.1

@@ -3,7 +3,6 @@ use Prim.Native.Nat.{ℕ, zero, ◌+◌, ◌<◌}
 use mathlib.Core.Bool.{Bool, false, cond, ◌&&◌, false≢true, true≢false}
 use mathlib.Core.Path.{sym, ap, ◌∙◌}
 use native.Mathlib.Omega.{arith}
-use borrow.Author.Rules.{rules}
 use borrow.Author.Tests.{eq-eqb, ne_eqb}
 use lib.ListN.{get_or}
 use Rattle.model.specs.Rules.Program.{is_input}

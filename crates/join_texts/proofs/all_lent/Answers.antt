@@ -1,11 +1,10 @@
 -- `join_texts::all_lent` meets its contract. Assumes nothing.
-use Prim.Native.Nat.{ℕ, ◌+◌, ◌-◌, ◌≤◌, ◌<◌}
+use Prim.Native.Nat.{ℕ, ◌+◌, ◌<◌}
 use mathlib.Core.Bool.{true}
 use mathlib.Core.Path.{◌≡◌, refl, sym, subst, ◌∙◌}
 use native.Mathlib.Decide.{dec_lt}
 use native.Mathlib.Omega.{arith}
-use borrow.Author.Tests.{not-true, not-false}
-use Rattle.model.specs.Rules.Join.{parts_in, texts_at, are_lent}
+use Rattle.model.specs.Rules.Join.{texts_at, are_lent}
 use Rattle.model.proofs.Pairs.Decide.{true-all, all-fails}
 use Rattle.join_texts.proofs.all_lent.Goals as goal
 

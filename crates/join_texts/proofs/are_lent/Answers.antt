@@ -1,8 +1,6 @@
 -- `join_texts::are_lent` meets its contract. Assumes nothing.
 use mathlib.Core.Path.{sym, ◌∙◌}
 use native.Mathlib.Omega.{arith}
-use borrow.Author.Rules.{rules}
-use borrow.Author.Tests.{not-true, not-false}
 use Rattle.model.proofs.Joining.Lent.{number-inside}
 use Rattle.join_texts.proofs.are_lent.Goals as goal
 

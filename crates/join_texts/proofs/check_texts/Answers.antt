@@ -1,7 +1,6 @@
 -- `join_texts::check_texts` meets its contract. Assumes nothing.
 use mathlib.Core.Path.{sym, ◌∙◌}
-use borrow.Author.Rules.{rules}
-use borrow.Author.Tests.{le-leb, lt-leb, not-true, not-false}
+use borrow.Author.Tests.{le-leb, lt-leb}
 use Rattle.model.specs.Rules.Join.{parts_in, lent}
 use Rattle.model.specs.Rules.Outcome.{◌▷◌, provided}
 use Rattle.basics.specs.Judgement.{judgement_of}

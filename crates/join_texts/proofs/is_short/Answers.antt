@@ -1,10 +1,9 @@
 -- `join_texts::is_short` meets its contract. Assumes nothing.
-use Prim.Native.Nat.{ℕ, ◌+◌, ◌-◌, ◌≤◌}
-use mathlib.Core.List.{List}
+use Prim.Native.Nat.{ℕ}
 use mathlib.Core.Path.{◌≡◌, refl, sym, ap}
 use native.Mathlib.Omega.{arith}
 use borrow.Author.Tests.{le-leb, lt-leb}
-use Rattle.model.specs.Rules.Join.{parts_in, texts_at, program_total}
+use Rattle.model.specs.Rules.Join.{parts_in, program_total}
 use Rattle.model.specs.Rules.Search.{sum, table_from, table}
 use Rattle.model.proofs.Basics.Outcomes.{sum_first, sum-next}
 use Rattle.model.proofs.Joining.Lent.{number-inside}

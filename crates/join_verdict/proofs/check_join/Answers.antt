@@ -1,32 +1,26 @@
 -- `join_verdict::check_join` meets its contract. Assumes nothing.
+use Rattle.std.specs.Prelude.{None}
 use Prim.Native.Nat.{ℕ}
 use mathlib.Core.List.{List}
-use mathlib.Core.Path.{◌≡◌, ◌∙◌}
-use borrow.Author.Rules.{rules}
-use Rattle.model.specs.Rules.Join.{
-  parts_in,
-  program_total,
-  lent,
-  parts_from,
-  links_of,
-  named,
-  one_table,
-  joined_verdict,
-  joined_pair_of,
-  part_named,
-}
+use mathlib.Core.Path.{◌≡◌, refl, sym, ap, ◌∙◌}
+use Rattle.model.specs.Rules.Join.{parts_in, program_total, lent, parts_from, named, one_table, joined_pair_of, without_part, part_in, part_named}
 use Rattle.model.specs.Rules.Outcome.{accepted}
 use Rattle.model.specs.Rules.Parts.{Part}
-use Rattle.model.specs.declared.Found.TheVariants.{Nowhere}
-use Rattle.basics.proofs.Judgements.{judgement-fine, judgement-refused}
-use Rattle.basics.proofs.Judgements.{answers-then, answers-stop}
-use Rattle.join_gather.specs.Joint.{JointOf}
-use Rattle.join_gather.specs.Rates.{RatesBy}
-use Rattle.join_gather.specs.Rows.{TableOf}
+use Rattle.basics.proofs.Judgements.{
+  judgement-fine,
+  judgement-refused,
+  answers-ok,
+  answers-refused,
+  answers-then,
+  answers-stop,
+  answers-gives,
+  answers-accepted,
+}
+use Rattle.join_gather.specs.Gathering.{Taken}
 use Rattle.join_links.specs.ByPart.{FreeInputs}
 use Rattle.join_whole.specs.Whole.{Joining}
 use Rattle.join_verdict.proofs.InOrder.{
-  answers-map,
+  handed,
   rates-none,
   none_lent,
   none-parts,
@@ -34,181 +28,163 @@ use Rattle.join_verdict.proofs.InOrder.{
   gathered-refused,
   free-none,
   all_right,
-  unnamed-none,
 }
 use Rattle.join_verdict.proofs.check_join.Goals as goal
-use Rattle.join_verdict.proofs.check_join.Goals.{After-check_texts-lent, After-gather-gathered, After-inputs-1, After-judge_links-named, In-Fine-named, In-Fine-parts, Start}
+use Rattle.join_verdict.proofs.check_join.Goals.{In_ok-check_texts, In_ok-gathered, In_ok-judge_links, In_ok-one_table}
 
--- what is lent
-module _ (s : Start) where
+-- What is known after each check that is passed: the texts are lent,
+passed : (i : In_ok-check_texts) → lent i.args.texts.now i.args.numbers.now ≡ accepted tt
+passed i = judgement-fine _ _ i.check_texts.ensures i.in_ok-check_texts.was
+
+-- the parts are accepted,
+module _ (e : In_ok-gathered) where
   abbrev texts : List ℕ
-  texts = s.args.texts.now
+  texts = e.args.texts.now
 
   abbrev numbers : List ℕ
-  numbers = s.args.numbers.now
+  numbers = e.args.numbers.now
 
   abbrev links : List ℕ
-  links = s.args.links.now
+  links = e.args.links.now
 
-abbrev begun : After-check_texts-lent → Start
-begun t = (goal.at.After-check_texts-lent t).Start
+  lent-at : lent texts numbers ≡ accepted tt
+  lent-at = passed (goal.at.In_ok-gathered e).In_ok-check_texts
 
-pub returns-in_default : goal.returns-in_default
-unfolding joined_pair_of
-returns-in_default c =
-    let t = (goal.at.returns-in_default c).After-check_texts-lent in
-    let s = (goal.at.returns-in_default c).Start in
-    let told = c.in_default.is in
-    let e = judgement-refused (lent (texts s) (numbers s)) _ _ t.check_texts-lent.ensures told in
-    record {
-      answer = answers-stop _ _ _ _ _ e (c.unnamed.ensures.judged ∙ told);
-      part = none_lent (texts s) (numbers s) _ e ∙ unnamed-none c.unnamed.result c.unnamed.ensures.named;
-    }
-
--- the texts are lent
-abbrev lent-at : After-inputs-1 → After-check_texts-lent
-lent-at i = (goal.at.After-inputs-1 i).After-check_texts-lent
-
-passed : (i : After-inputs-1) → let s = (goal.at.After-inputs-1 i).Start in lent (texts s) (numbers s) ≡ accepted tt
-passed i =
-    let s = (goal.at.After-inputs-1 i).Start in
-    judgement-fine (lent (texts s) (numbers s)) _ (lent-at i).check_texts-lent.ensures i.in-Fine.is
-
--- each part is checked
-abbrev start : After-gather-gathered → Start
-start g = (goal.at.After-gather-gathered g).Start
-
-pub returns-in_default-parts : goal.returns-in_default-parts
-unfolding joined_pair_of
-returns-in_default-parts c =
-    let g = (goal.at.returns-in_default-parts c).After-gather-gathered in
-    let s = (goal.at.returns-in_default-parts c).Start in
-    let told = c.in_default-parts.is in
-    let r = gathered-refused (texts s) (numbers s) _ _ _ _ _ (g.gather-gathered.ensures rates-none) told in
-    record {
-      answer = answers-then _ _ _ _ tt (passed (goal.at.After-gather-gathered g).After-inputs-1) (answers-stop _ _ _ _ _ r.0 told);
-      part = r.1;
-    }
-
--- the parts are accepted: their tables
-abbrev gather-at : In-Fine-parts → After-gather-gathered
-gather-at e = (goal.at.In-Fine-parts e).After-gather-gathered
-
-module _ (e : In-Fine-parts) where
-  abbrev g : After-gather-gathered
-  g = (goal.at.In-Fine-parts e).After-gather-gathered
-
-  abbrev s : Start
-  s = (goal.at.In-Fine-parts e).Start
-
-  gathered : (parts : List Part) × (parts_from (texts s) (numbers s) 0 (parts_in (numbers s)) ≡ accepted parts) ×
-      JointOf parts (program_total (numbers s)) g.gather-gathered.result.joint ×
-      RatesBy parts g.gather-gathered.new.periods g.gather-gathered.new.inputs ×
-      TableOf parts g.gather-gathered.result.table
-  gathered = gathered-fine (texts s) (numbers s) _ _ _ _ (g.gather-gathered.ensures rates-none) e.in-Fine-parts.is
+  gathered : (parts : List Part) × (parts_from texts numbers 0 (parts_in numbers) ≡ accepted parts) ×
+      Taken numbers e.gather.new.periods e.gather.new.inputs e.in_ok-gathered.gathered parts
+  gathered = gathered-fine texts numbers _ _ _ _ _ (e.gather.ensures rates-none) e.in_ok-gathered.was
 
   abbrev parts : List Part
   parts = gathered.0
 
-  -- it names no part
-  none : part_named (texts s) (numbers s) ≡ Nowhere
-  none = none-parts (texts s) (numbers s) parts (passed (goal.at.After-gather-gathered g).After-inputs-1) gathered.1
+  none : part_named texts numbers ≡ None
+  none = none-parts texts numbers parts lent-at gathered.1
 
-  free : FreeInputs parts (links s) 0 g.gather-gathered.new.inputs
-  free = free-none parts _ (links s) _ gathered.3
+  free : FreeInputs parts links 0 e.gather.new.inputs
+  free = free-none parts _ links _ gathered.2.rates
 
--- the links are judged
-abbrev fine : After-judge_links-named → In-Fine-parts
-fine j = (goal.at.After-judge_links-named j).In-Fine-parts
-
-pub returns-in_default-named : goal.returns-in_default-named
-unfolding joined_pair_of
-returns-in_default-named c =
-    let j = (goal.at.returns-in_default-named c).After-judge_links-named in
-    let e = (goal.at.returns-in_default-named c).In-Fine-parts in
-    let told = c.in_default-named.is in
-    let r =
-    judgement-refused (named (parts e) (links (goal.at.In-Fine-parts e).Start)) _ _
-    (j.judge_links-named.ensures (parts e) (gathered e).3.periods-are (free e)).0 told in
-    record {
-      answer =
-          answers-then _ _ _ _ tt (passed (goal.at.In-Fine-parts e).After-inputs-1)
-          (answers-then _ _ _ _ (parts e) (gathered e).1
-          (answers-stop _ _ _ _ _ r (c.unnamed-in_default-named.ensures.judged ∙ told)));
-      part = none e ∙ unnamed-none c.unnamed-in_default-named.result c.unnamed-in_default-named.ensures.named;
-    }
-
--- the links are right
-abbrev accepts : In-Fine-named → In-Fine-parts
-accepts l = (goal.at.In-Fine-named l).In-Fine-parts
-
-right : (l : In-Fine-named) → let e = (goal.at.In-Fine-named l).In-Fine-parts in named (parts e) (links (goal.at.In-Fine-parts e).Start) ≡ accepted tt
+-- the links are right,
+right : (l : In_ok-judge_links) → let e = (goal.at.In_ok-judge_links l).In_ok-gathered in named (parts e) (links e) ≡ accepted tt
 right l =
-    let e = (goal.at.In-Fine-named l).In-Fine-parts in
-    judgement-fine (named (parts e) (links (goal.at.In-Fine-parts e).Start)) _
-    (l.judge_links-named.ensures (parts e) (gathered e).3.periods-are (free e)).0 l.in-Fine-named.is
+    let e = (goal.at.In_ok-judge_links l).In_ok-gathered in
+    judgement-fine _ _ (l.judge_links.ensures (parts e) (gathered e).2.rates.periods-are (free e)).0 l.in_ok-judge_links.was
 
-joining : (l : In-Fine-named) → let e = (goal.at.In-Fine-named l).In-Fine-parts in
-    Joining (parts e) (program_total (numbers (goal.at.In-Fine-parts e).Start)) (links (goal.at.In-Fine-parts e).Start) (g e).gather-gathered.result.joint
+joining : (l : In_ok-judge_links) → let e = (goal.at.In_ok-judge_links l).In_ok-gathered in
+    Joining (parts e) (program_total (numbers e)) (links e) e.in_ok-gathered.gathered.joint
 joining l =
-    let e = (goal.at.In-Fine-named l).In-Fine-parts in
+    let e = (goal.at.In_ok-judge_links l).In_ok-gathered in
     record {
-      few = (gathered e).3.periods-are.few;
-      joint-of = (gathered e).2;
-      right = all_right (parts e) (links (goal.at.In-Fine-parts e).Start) (right l);
-    }
-
-pub returns-in_default-rows : goal.returns-in_default-rows
-unfolding joined_pair_of
-returns-in_default-rows c =
-    let o = c in
-    let l = (goal.at.returns-in_default-rows c).In-Fine-named in
-    let e = (goal.at.returns-in_default-rows c).In-Fine-parts in
-    let told = c.in_default-rows.is in
-    let r = judgement-refused (one_table (parts e)) _ _ (o.one_table-rows.ensures (parts e) (gathered e).4) told in
-    record {
-      answer =
-          answers-then _ _ _ _ tt (passed (goal.at.In-Fine-parts e).After-inputs-1)
-          (answers-then _ _ _ _ (parts e) (gathered e).1
-          (answers-then _ _ _ _ tt (right l) (answers-stop _ _ _ _ _ r (c.unnamed-in_default-rows.ensures.judged ∙ told))));
-      part = none e ∙ unnamed-none c.unnamed-in_default-rows.result c.unnamed-in_default-rows.ensures.named;
+      few = (gathered e).2.rates.periods-are.few;
+      joint-of = (gathered e).2.joint-of;
+      right = all_right (parts e) (links e) (right l);
     }
 
 -- rows stand in one part only
-pub check_joint-whole-requires : goal.check_joint-whole-requires
-check_joint-whole-requires c =
-    let l = (goal.at.check_joint-whole-requires c).In-Fine-named in
-    let e = (goal.at.check_joint-whole-requires c).In-Fine-parts in
-    (parts e, program_total (numbers (goal.at.In-Fine-parts e).Start), joining l)
+one : (o : In_ok-one_table) → let e = (goal.at.In_ok-one_table o).In_ok-gathered in one_table (parts e) ≡ accepted tt
+one o =
+    let e = (goal.at.In_ok-one_table o).In_ok-gathered in
+    judgement-fine _ _ (o.one_table.ensures (parts e) (gathered e).2.table_of) o.in_ok-one_table.was
+
+pub returns-in_err-check_texts : goal.returns-in_err-check_texts
+unfolding joined_pair_of
+returns-in_err-check_texts c =
+    let e = judgement-refused _ _ _ c.check_texts.ensures c.in_err-check_texts.was in
+    let h = handed _ c.from_residual.ensures.1 in
+    record {
+      answer = answers-stop _ _ _ _ _ e (ap without_part h);
+      part = none_lent _ _ _ e ∙ sym (ap part_in h);
+    }
+
+pub gather-requires : goal.gather-requires
+gather-requires c = passed (goal.at.gather-requires c).In_ok-check_texts
+
+pub returns-in_err-gathered : goal.returns-in_err-gathered
+unfolding joined_pair_of
+returns-in_err-gathered c =
+    let r = gathered-refused _ _ _ _ _ _ _ (c.gather.ensures rates-none) c.in_err-gathered.was in
+    let h = handed _ c.from_residual-in_err-gathered.ensures.1 in
+    record {
+      answer =
+          answers-then _ _ _ _ _ (passed (goal.at.returns-in_err-gathered c).In_ok-check_texts)
+          (answers-stop _ _ _ _ _ r.0 (ap without_part h));
+      part = r.1 ∙ sym (ap part_in h);
+    }
+
+pub returns-in_err-judge_links : goal.returns-in_err-judge_links
+unfolding joined_pair_of
+returns-in_err-judge_links c =
+    let e = (goal.at.returns-in_err-judge_links c).In_ok-gathered in
+    let h = handed _ c.from_residual-in_err-judge_links.ensures.1 in
+    record {
+      answer =
+          answers-then _ _ _ _ _ (lent-at e)
+          (answers-then _ _ _ _ _ (gathered e).1
+          (answers-stop _ _ _ _ _
+          (judgement-refused _ _ _ (c.judge_links.ensures (parts e) (gathered e).2.rates.periods-are (free e)).0
+          c.in_err-judge_links.was)
+          (ap without_part h)));
+      part = none e ∙ sym (ap part_in h);
+    }
+
+pub returns-in_err-one_table : goal.returns-in_err-one_table
+unfolding joined_pair_of
+returns-in_err-one_table c =
+    let e = (goal.at.returns-in_err-one_table c).In_ok-gathered in
+    let h = handed _ c.from_residual-in_err-one_table.ensures.1 in
+    record {
+      answer =
+          answers-then _ _ _ _ _ (lent-at e)
+          (answers-then _ _ _ _ _ (gathered e).1
+          (answers-then _ _ _ _ _ (right (goal.at.returns-in_err-one_table c).In_ok-judge_links)
+          (answers-stop _ _ _ _ _
+          (judgement-refused _ _ _ (c.one_table.ensures (parts e) (gathered e).2.table_of) c.in_err-one_table.was)
+          (ap without_part h))));
+      part = none e ∙ sym (ap part_in h);
+    }
+
+pub check_joint-requires : goal.check_joint-requires
+check_joint-requires c = (_, _, joining (goal.at.check_joint-requires c).In_ok-judge_links)
+
+pub returns-in_err-hypercycle : goal.returns-in_err-hypercycle
+unfolding joined_pair_of
+returns-in_err-hypercycle c =
+    let e = (goal.at.returns-in_err-hypercycle c).In_ok-gathered in
+    let l = (goal.at.returns-in_err-hypercycle c).In_ok-judge_links in
+    let h = handed _ c.from_residual-in_err-hypercycle.ensures.1 in
+    record {
+      answer =
+          answers-then _ _ _ _ _ (lent-at e)
+          (answers-then _ _ _ _ _ (gathered e).1
+          (answers-then _ _ _ _ _ (right l)
+          (answers-then _ _ _ _ _ (one (goal.at.returns-in_err-hypercycle c).In_ok-one_table)
+          (answers-gives _ _ _ _
+          (answers-refused _ _ _ _ (c.check_joint.ensures _ _ (joining l)) c.in_err-hypercycle.was)
+          (ap without_part h)))));
+      part = none e ∙ sym (ap part_in h);
+    }
 
 pub returns : goal.returns
 unfolding joined_pair_of
 returns c =
-    let o = c in
-    let l = (goal.at.returns c).In-Fine-named in
-    let e = (goal.at.returns c).In-Fine-parts in
-    let one =
-    judgement-fine (one_table (parts e)) _ (o.one_table-rows.ensures (parts e) (gathered e).4) c.in-Fine-rows.is in
+    let e = (goal.at.returns c).In_ok-gathered in
+    let l = (goal.at.returns c).In_ok-judge_links in
+    let o = (goal.at.returns c).In_ok-one_table in
+    let v = answers-ok _ _ _ _ (c.check_joint.ensures _ _ (joining l)) c.in_ok-hypercycle.was in
     record {
       answer =
-          answers-then _ _ _ _ tt (passed (goal.at.In-Fine-parts e).After-inputs-1)
-          (answers-then _ _ _ _ (parts e) (gathered e).1
-          (answers-then _ _ _ _ tt (right l)
-          (answers-then _ _ _ _ tt one
-          (answers-map _ _ (joined_verdict (parts e) (links_of (links (goal.at.In-Fine-parts e).Start))) _
-          (λ q v h.
-          record {
+          answers-then _ _ _ _ _ (lent-at e)
+          (answers-then _ _ _ _ _ (gathered e).1
+          (answers-then _ _ _ _ _ (right l)
+          (answers-then _ _ _ _ _ (one o)
+          (answers-accepted _ _ _ _ _ v.1 refl
+          (record {
             parts = parts e;
             checked = (gathered e).1;
             joining = joining l;
-            table = (gathered e).4;
-            one = one;
-            joined = v;
-            hyper = h;
-          })
-          (c.check_joint-whole.ensures (parts e) (program_total (numbers (goal.at.In-Fine-parts e).Start)) (joining l))))));
+            table = (gathered e).2.table_of;
+            one = one o;
+            joined = v.1;
+            hyper = v.2;
+          })))));
       part = none e;
     }
-
-pub gather-gathered-requires : goal.gather-gathered-requires
-gather-gathered-requires c = passed c

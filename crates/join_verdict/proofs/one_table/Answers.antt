@@ -1,7 +1,6 @@
 -- `join_verdict::one_table` meets its contract. Assumes nothing.
 use mathlib.Core.Path.{sym}
 use native.Mathlib.Omega.{arith}
-use borrow.Author.Rules.{rules}
 use borrow.Author.Tests.{le-leb, lt-leb}
 use Rattle.model.specs.Rules.Join.{one_table}
 use Rattle.model.specs.Rules.Outcome.{provided}

@@ -3,12 +3,11 @@ use Prim.Native.Nat.{ℕ, ◌≤◌, ◌<◌}
 use mathlib.Core.Bool.{◌&&◌}
 use mathlib.Core.Path.{◌≡◌, refl, sym, ap, ◌∙◌}
 use mathlib.Core.List.{List}
-use borrow.Author.Rules.{rules}
 use borrow.Author.Tests.{le-leb, lt-leb}
 use lib.Dec.{leb}
 use lib.ListN.{length}
 use Rattle.model.specs.Rules.Join.{links_of, links_met, joined_verdict}
-use Rattle.model.specs.Rules.Outcome.{Outcome, accepted, refused, fault, provided}
+use Rattle.model.specs.Rules.Outcome.{Outcome, accepted, refused, yielded_of, fault, provided}
 use Rattle.model.specs.Rules.Parts.{Part, joined_pair}
 use Rattle.model.specs.Rules.Program.{count}
 use Rattle.model.specs.Rules.Rates.{hypercycle}
@@ -17,12 +16,10 @@ use Rattle.model.proofs.Pairs.Hypercycle.{hypercycle-least}
 use Rattle.basics.proofs.Judgements.{
   judgement-fine,
   judgement-refused,
-  answers-fine,
-  answers-refused,
   answers-then,
   answers-stop,
-  answers-last,
-  judgement-answers,
+  answers-accepted,
+  handed-on,
 }
 use Rattle.join_gather.specs.declared.Joint.{Joint}
 use Rattle.join_whole.specs.Whole.{Joining}
@@ -37,7 +34,7 @@ use Rattle.join_whole.proofs.Wired.{
   phases-below,
 }
 use Rattle.join_whole.proofs.check_joint.Goals as goal
-use Rattle.join_whole.proofs.check_joint.Goals.{After-check_hypercycle-cycles, After-links_met-met, Else-joint-gt16, In-Fine, In-Fine-met, Start}
+use Rattle.join_whole.proofs.check_joint.Goals.{Else-joint-gt16, In_ok-hypercycle, In_ok-links_met}
 
 abbrev few : ℕ → ℕ → Outcome (Unit {0})
 few n m = provided (leb n 64 && leb m 16) 4 0
@@ -59,119 +56,103 @@ counted j = rw (wired-count j, wired-chains j)
 
 pub returns-then-joint-gt64 : goal.returns-then-joint-gt64
 unfolding joined_verdict
-returns-then-joint-gt64 c =
-    let s = c in
-    λ parts size j.
-    answers-stop _ _ _ _ (fault 4 0) (counted j ∙ few-signals _ s.args.joint.chains c.if-joint-gt64.true)
-    (c.refused.ensures ∙ c.refuse.ensures)
+returns-then-joint-gt64 c = λ parts size j.
+    answers-stop _ _ _ _ (fault 4 0) (counted j ∙ few-signals _ c.args.joint.now.chains c.if-joint-gt64.true) c.refuse.ensures
 
 pub returns-then-joint-gt16 : goal.returns-then-joint-gt16
 unfolding joined_verdict
-returns-then-joint-gt16 c =
-    let t = c in
-    λ parts size j.
-    answers-stop _ _ _ _ (fault 4 0) (counted j ∙ few-chains _ _ t.if-joint-gt64.false t.if-joint-gt16.true)
-    (c.refused-then-joint-gt16.ensures ∙ c.refuse-then-joint-gt16.ensures)
+returns-then-joint-gt16 c = λ parts size j.
+    answers-stop _ _ _ _ (fault 4 0) (counted j ∙ few-chains _ _ c.if-joint-gt64.false c.if-joint-gt16.true)
+    c.refuse-then-joint-gt16.ensures
 
 -- where there are at most 64 signals and 16 chains
-abbrev begun : Else-joint-gt16 → Start
-begun e = (goal.at.Else-joint-gt16 e).Start
-
 module _ (e : Else-joint-gt16) where
   abbrev links : List ℕ
-  links = (begun e).args.links.now
+  links = e.args.links.now
 
   abbrev Joins : List Part → ℕ → Type 0
-  Joins parts size = Joining parts size links (begun e).args.joint
+  Joins parts size = Joining parts size links e.args.joint.now
 
   abbrev pair : List Part → Part
   pair parts = joined_pair parts (links_of links)
 
-  small : (begun e).args.joint.signals ≤ 64
+  small : e.args.joint.now.signals ≤ 64
   small = e.if-joint-gt64.false
 
   passed : (parts : List Part) (size : ℕ) → Joins parts size →
       few (count (pair parts).program) (length (pair parts).program.chains) ≡ accepted tt
   passed parts size j = counted j ∙ few-both _ _ small e.if-joint-gt16.false
 
--- the hypercycle
-abbrev counts : After-check_hypercycle-cycles → Else-joint-gt16
-counts k = (goal.at.After-check_hypercycle-cycles k).Else-joint-gt16
-
-pub returns-in_default : goal.returns-in_default
-unfolding joined_verdict
-returns-in_default c =
-    let k = (goal.at.returns-in_default c).After-check_hypercycle-cycles in
-    let e = (goal.at.returns-in_default c).Else-joint-gt16 in
-    let told = c.in_default.is in
-    λ parts size j.
-    answers-then _ _ _ _ tt (passed e parts size j)
-    (answers-stop _ _ _ _ _
-    (answers-refused _ _ _ _
-    (k.check_hypercycle-cycles.ensures (pair e parts).program (wired-count j) (wired-periods j (small e))) told)
-    (c.refused-in_default.ensures ∙ told))
-
-abbrev few-at : In-Fine → Else-joint-gt16
-few-at d = (goal.at.In-Fine d).Else-joint-gt16
-
-least : (d : In-Fine) (parts : List Part) (size : ℕ) → Joins (goal.at.In-Fine d).Else-joint-gt16 parts size →
-    hypercycle (pair (goal.at.In-Fine d).Else-joint-gt16 parts).program ≡ accepted d.check_hypercycle-cycles.result.hypercycle
+-- the hypercycle, and the links
+least : (d : In_ok-hypercycle) (parts : List Part) (size : ℕ) → Joins (goal.at.In_ok-hypercycle d).Else-joint-gt16 parts size →
+    hypercycle (pair (goal.at.In_ok-hypercycle d).Else-joint-gt16 parts).program ≡ accepted d.in_ok-hypercycle.hypercycle
 least d parts size j =
-    let e = (goal.at.In-Fine d).Else-joint-gt16 in
-    let a = answers-fine _ _ _
-    (d.check_hypercycle-cycles.ensures (pair e parts).program (wired-count j) (wired-periods j (small e)))
-    d.in-Fine.is in
-    a.1 ∙ ap accepted (sym a.2)
+    let e = (goal.at.In_ok-hypercycle d).Else-joint-gt16 in
+    sym (d.check_hypercycle.ensures (pair e parts).program (wired-count j) (wired-periods j (small e))) ∙
+    ap yielded_of d.in_ok-hypercycle.was
 
--- the links
-pub links_met-met-requires : goal.links_met-met-requires
-links_met-met-requires c =
-    let e = (goal.at.links_met-met-requires c).Else-joint-gt16 in
-    let s = c in
-    (s.requires.0, linking s.requires.2 (small e))
+met : (d : In_ok-links_met) (parts : List Part) (size : ℕ) → Joins (goal.at.In_ok-links_met d).Else-joint-gt16 parts size →
+    links_met parts (links_of d.args.links.now) ≡ accepted tt
+met d parts size j =
+    let e = (goal.at.In_ok-links_met d).Else-joint-gt16 in
+    judgement-fine _ _ (d.links_met.ensures parts (linking j (small e))) d.in_ok-links_met.was
 
-abbrev cycled : After-links_met-met → In-Fine
-cycled m = (goal.at.After-links_met-met m).In-Fine
-
-pub returns-in_default-met : goal.returns-in_default-met
+pub returns-in_err-hypercycle : goal.returns-in_err-hypercycle
 unfolding joined_verdict
-returns-in_default-met c =
-    let m = (goal.at.returns-in_default-met c).After-links_met-met in
-    let e = (goal.at.returns-in_default-met c).Else-joint-gt16 in
-    let told = c.in_default-met.is in
-    λ parts size j.
-    answers-then _ _ _ _ tt (passed e parts size j)
-    (answers-then _ _ _ _ _ (least (goal.at.After-links_met-met m).In-Fine parts size j)
+returns-in_err-hypercycle c = λ parts size j.
+    let e = (goal.at.returns-in_err-hypercycle c).Else-joint-gt16 in
+    answers-then _ _ _ _ _ (passed e parts size j)
     (answers-stop _ _ _ _ _
-    (judgement-refused (links_met parts (links_of (links e))) _ _ (m.links_met-met.ensures parts (linking j (small e))) told)
-    (c.refused-in_default-met.ensures ∙ told)))
+    (sym (c.check_hypercycle.ensures (pair e parts).program (wired-count j) (wired-periods j (small e))) ∙
+    ap yielded_of c.in_err-hypercycle.was)
+    (handed-on _ c.from_residual.ensures.1))
 
--- the load
-abbrev met : In-Fine-met → After-links_met-met
-met f = (goal.at.In-Fine-met f).After-links_met-met
+pub links_met-requires : goal.links_met-requires
+links_met-requires c =
+    let e = (goal.at.links_met-requires c).Else-joint-gt16 in
+    (c.requires.0, linking c.requires.2 (small e))
+
+pub returns-in_err-links_met : goal.returns-in_err-links_met
+unfolding joined_verdict
+returns-in_err-links_met c = λ parts size j.
+    let e = (goal.at.returns-in_err-links_met c).Else-joint-gt16 in
+    answers-then _ _ _ _ _ (passed e parts size j)
+    (answers-then _ _ _ _ _ (least (goal.at.returns-in_err-links_met c).In_ok-hypercycle parts size j)
+    (answers-stop _ _ _ _ _
+    (judgement-refused _ _ _ (c.links_met.ensures parts (linking j (small e))) c.in_err-links_met.was)
+    (handed-on _ c.from_residual-in_err-links_met.ensures.1)))
 
 pub judge_load-requires : goal.judge_load-requires
 judge_load-requires c =
-    let d = (goal.at.judge_load-requires c).In-Fine in
+    let d = (goal.at.judge_load-requires c).In_ok-hypercycle in
     let e = (goal.at.judge_load-requires c).Else-joint-gt16 in
-    let s = c in
-    let j = s.requires.2 in
-    (small e, ((hypercycle-least _ _).0 (least d s.requires.0 s.requires.1 j)).bound, phases-below j (small e))
+    let j = c.requires.2 in
+    (small e, ((hypercycle-least _ _).0 (least d c.requires.0 c.requires.1 j)).bound, phases-below j (small e))
+
+pub returns-in_err-judge_load : goal.returns-in_err-judge_load
+unfolding joined_verdict
+returns-in_err-judge_load c = λ parts size j.
+    let e = (goal.at.returns-in_err-judge_load c).Else-joint-gt16 in
+    let q = pair e parts in
+    answers-then _ _ _ _ _ (passed e parts size j)
+    (answers-then _ _ _ _ _ (least (goal.at.returns-in_err-judge_load c).In_ok-hypercycle parts size j)
+    (answers-then _ _ _ _ _ (met (goal.at.returns-in_err-judge_load c).In_ok-links_met parts size j)
+    (answers-stop _ _ _ _ _
+    (judgement-refused _ _ _
+    (c.judge_load.ensures q.program q.schedule (wired-count j) (wired-periods j (small e)) (wired-weights j (small e))
+    (wired-phases j (small e)) (wired-cap j)) c.in_err-judge_load.was)
+    (handed-on _ c.from_residual-in_err-judge_load.ensures.1))))
 
 pub returns : goal.returns
 unfolding joined_verdict
-returns c =
-    let f = (goal.at.returns c).In-Fine-met in
-    let m = (goal.at.returns c).After-links_met-met in
+returns c = λ parts size j.
     let e = (goal.at.returns c).Else-joint-gt16 in
-    λ parts size j.
     let q = pair e parts in
-    answers-then _ _ _ _ tt (passed e parts size j)
-    (answers-then _ _ _ _ _ (least (goal.at.After-links_met-met m).In-Fine parts size j)
-    (answers-then _ _ _ _ tt
-    (judgement-fine (links_met parts (links_of (links e))) _ (m.links_met-met.ensures parts (linking j (small e)))
-    f.in-Fine-met.is)
-    (answers-last _ _ _ _
-    (judgement-answers _ _ _
+    answers-then _ _ _ _ _ (passed e parts size j)
+    (answers-then _ _ _ _ _ (least (goal.at.returns c).In_ok-hypercycle parts size j)
+    (answers-then _ _ _ _ _ (met (goal.at.returns c).In_ok-links_met parts size j)
+    (answers-then _ _ _ _ _
+    (judgement-fine _ _
     (c.judge_load.ensures q.program q.schedule (wired-count j) (wired-periods j (small e)) (wired-weights j (small e))
-    (wired-phases j (small e)) (wired-cap j)) (λ _. refl)))))
+    (wired-phases j (small e)) (wired-cap j)) c.in_ok-judge_load.was)
+    (answers-accepted _ _ _ _ _ refl refl refl))))

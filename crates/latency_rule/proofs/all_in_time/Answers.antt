@@ -39,9 +39,6 @@ returns-then-is_late c =
     let l = c in
     sym (all-fails _ (test (goal.at.returns-then-is_late l).In-loop-i) (i (goal.at.returns-then-is_late l).In-loop-i) l.loop-i-test.true (tested (goal.at.returns-then-is_late c).After-is_late ∙ ap not c.if-is_late.true))
 
-pub overflow_add-i : goal.overflow_add-i
-overflow_add-i c = let l = c in omega (arith, l.loop-i-test.true, (start (goal.at.overflow_add-i l).In-loop-i).requires.within)
-
 pub loop-i-preserved : goal.loop-i-preserved
 loop-i-preserved c =
     let l = c in

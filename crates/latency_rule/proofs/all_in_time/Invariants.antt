@@ -17,6 +17,3 @@ kept bound route from i = not (late_by bound (run_latency_by route (from + i)))
 
 abbrev pub invariant-loop-i : goal.invariant-loop-i
 invariant-loop-i l = (l.i ≤ l.window) × (all_below l.i (kept l.bound l.route l.from) ≡ true)
-
-abbrev pub decreases-loop-i : goal.decreases-loop-i
-decreases-loop-i l = l.window - l.i

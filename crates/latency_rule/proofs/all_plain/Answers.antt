@@ -52,9 +52,3 @@ offset_bounds-hops-i c = omega (arith, c.loop-i-test.true, (start c).requires)
 
 pub bounds-hops-i : goal.bounds-hops-i
 bounds-hops-i c = omega (arith, c.loop-i-test.true, (start c).requires)
-
-pub overflow_add-i : goal.overflow_add-i
-overflow_add-i c = let l = c in omega (arith, l.loop-i-test.true, (start (goal.at.overflow_add-i l).In-loop-i).requires)
-
-pub loop-i-smaller : goal.loop-i-smaller
-loop-i-smaller c = omega (arith, c.loop-i-test.true)

@@ -13,7 +13,4 @@ use Rattle.read_rule.specs.Lines.{is_plain}
 use Rattle.latency_rule.proofs.all_plain.Given as goal
 
 abbrev pub invariant-loop-i : goal.invariant-loop-i
-invariant-loop-i l = (l.i ≤ l.route.count) × (all_plain l.hops l.i ≡ true)
-
-abbrev pub decreases-loop-i : goal.decreases-loop-i
-decreases-loop-i l = l.route.count - l.i
+invariant-loop-i l = (l.i ≤ l.fn.route.count) × (all_plain l.hops l.i ≡ true)

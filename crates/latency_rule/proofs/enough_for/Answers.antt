@@ -8,16 +8,16 @@ returns-in_default c = rw c.in_default.is
 
 pub returns-then-l-least : goal.returns-then-l-least
 returns-then-l-least c =
-    rw (c.in-At.is, c.in-Exists.is, lt-ltb _ _ c.if-l-least.true)
+    rw (c.in-Some.is, c.in-Exists.is, lt-ltb _ _ c.if-l-least.true)
 
 pub returns-else-l-least : goal.returns-else-l-least
 returns-else-l-least c =
-    rw (c.in-At.is, c.in-Exists.is, le-ltb _ _ c.if-l-least.false)
+    rw (c.in-Some.is, c.in-Exists.is, le-ltb _ _ c.if-l-least.false)
 
 pub returns-then-least-l : goal.returns-then-least-l
 returns-then-least-l c =
-    rw (c.in-At.is, c.in-Backward.is, lt-ltb _ _ c.if-least-l.true)
+    rw (c.in-Some.is, c.in-Backward.is, lt-ltb _ _ c.if-least-l.true)
 
 pub returns-else-least-l : goal.returns-else-least-l
 returns-else-least-l c =
-    rw (c.in-At.is, c.in-Backward.is, le-ltb _ _ c.if-least-l.false)
+    rw (c.in-Some.is, c.in-Backward.is, le-ltb _ _ c.if-least-l.false)

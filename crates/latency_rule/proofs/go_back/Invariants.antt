@@ -9,9 +9,6 @@ use Rattle.latency_rule.specs.declared.Hop.{Hop}
 use Rattle.latency_rule.proofs.Hops.{back_at, small_at, back_end, small-start, small-run, onward-at, small-onward}
 use Rattle.latency_rule.proofs.go_back.Given as goal
 
-abbrev pub invariant-loop-left : goal.invariant-loop-left
-invariant-loop-left l =
-    (l.left ≤ l.initial.left) × Small l.hops l.left l.element × (back_by l.hops l.initial.left l.k ≡ back_by l.hops l.left l.element)
-
-abbrev pub decreases-loop-left : goal.decreases-loop-left
-decreases-loop-left l = l.left
+abbrev pub invariant-loop-i : goal.invariant-loop-i
+invariant-loop-i l =
+    (l.i ≤ l.initial.i) × Small l.hops l.i l.element × (back_by l.hops l.initial.i l.k ≡ back_by l.hops l.i l.element)

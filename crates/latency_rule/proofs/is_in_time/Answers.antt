@@ -2,5 +2,5 @@
 use borrow.Author.Rules.{rules}
 use Rattle.latency_rule.proofs.is_in_time.Goals as goal
 
-pub returns-in-At : goal.returns-in-At
-returns-in-At c = rw c.in-At.is
+pub returns-in-Some : goal.returns-in-Some
+returns-in-Some c = rw c.in-Some.is

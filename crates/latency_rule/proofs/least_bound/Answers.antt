@@ -32,9 +32,6 @@ module _ (c : In-loop-i) where
 pub overflow_add-runs : goal.overflow_add-runs
 overflow_add-runs c = omega (arith, c.loop-i-test.true, (passable (goal.at.overflow_add-runs c).In-loop-i).within)
 
-pub overflow_add-i : goal.overflow_add-i
-overflow_add-i c = let l = c in omega (arith, l.loop-i-test.true, (passable (goal.at.overflow_add-i l).In-loop-i).within)
-
 pub loop-i-preserved : goal.loop-i-preserved
 loop-i-preserved c =
     let t = c in
@@ -56,6 +53,3 @@ returns c =
 
 pub run_latency-latency-requires : goal.run_latency-latency-requires
 run_latency-latency-requires c = one-run (passable (goal.at.run_latency-latency-requires c).In-loop-i) _ c.loop-i-test.true
-
-pub loop-i-smaller : goal.loop-i-smaller
-loop-i-smaller c = omega (arith, c.loop-i-test.true)

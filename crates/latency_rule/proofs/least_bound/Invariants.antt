@@ -11,6 +11,3 @@ use Rattle.latency_rule.proofs.least_bound.Given as goal
 
 abbrev pub invariant-loop-i : goal.invariant-loop-i
 invariant-loop-i l = (l.i ≤ l.runs.count) × LeastBound l.mode l.route l.runs.from l.i l.bound
-
-abbrev pub decreases-loop-i : goal.decreases-loop-i
-decreases-loop-i l = l.runs.count - l.i

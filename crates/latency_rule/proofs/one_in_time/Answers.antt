@@ -41,9 +41,6 @@ returns-then-is_in_time c =
     sym (ap is_found (l.loop-i.invariant ∙
     search-here (test (goal.at.returns-then-is_in_time l).In-loop-i) (i (goal.at.returns-then-is_in_time l).In-loop-i) _ l.loop-i-test.true (tested (goal.at.returns-then-is_in_time c).After-is_in_time ∙ c.if-is_in_time.true)))
 
-pub overflow_add-i : goal.overflow_add-i
-overflow_add-i c = let l = c in omega (arith, l.loop-i-test.true, (start (goal.at.overflow_add-i l).In-loop-i).requires.within)
-
 pub loop-i-preserved : goal.loop-i-preserved
 loop-i-preserved c =
     let l = c in

@@ -19,6 +19,3 @@ kept bound route from i = in_time_by bound (run_latency_by route (from + i))
 abbrev pub invariant-loop-i : goal.invariant-loop-i
 invariant-loop-i l =
     first_below l.window (kept l.bound l.route l.from) ≡ first_from l.i (l.window - l.i) (kept l.bound l.route l.from)
-
-abbrev pub decreases-loop-i : goal.decreases-loop-i
-decreases-loop-i l = l.window - l.i

@@ -6,19 +6,19 @@ use borrow.Author.Rules.{rules}
 use Rattle.latency_rule.proofs.run_latency.Goals as goal
 
 pub cycle_of-requires : goal.cycle_of-requires
-cycle_of-requires c = subst SmallFound c.in-At.is c.go_back-found.ensures.1
+cycle_of-requires c = subst SmallFound c.in-Some.is c.go_back-found.ensures.1
 
-pub returns-in-At : goal.returns-in-At
+pub returns-in-Some : goal.returns-in-Some
 unfolding run_latency_by latency_of
-returns-in-At c =
+returns-in-Some c =
     let m = c in
     rw (
-      sym m.go_back-found.ensures.0 ∙ m.in-At.is,
-      ← c.cycle_of-in-At.ensures.0,
+      sym m.go_back-found.ensures.0 ∙ m.in-Some.is,
+      ← c.cycle_of-in-Some.ensures.0,
       ← c.cycle_of.ensures.0,
       ← c.cycles_between-cycles.ensures,
     )
 
-pub returns-in-Nowhere : goal.returns-in-Nowhere
+pub returns-in-None : goal.returns-in-None
 unfolding run_latency_by
-returns-in-Nowhere c = rw (sym c.go_back-found.ensures.0 ∙ c.in-Nowhere.is)
+returns-in-None c = rw (sym c.go_back-found.ensures.0 ∙ c.in-None.is)

@@ -2,7 +2,7 @@
 use mir.Syntax.{w32}
 use mir.Val.{to_z, of_z}
 use mathlib.Core.Path.{◌≡◌, refl, ap, ap₂, ◌∙◌}
-use Prim.Native.Nat.{ℕ, ◌+◌, ◌-◌, ◌*◌, ◌≤◌, ◌<◌}
+use Prim.Native.Nat.{ℕ, ◌+◌, ◌*◌, ◌<◌}
 use native.Mathlib.Omega.{arith}
 use lib.IntN.{ℤ, pos}
 use lib.ListN.{length, set, length-set}
@@ -32,9 +32,9 @@ loop-x-init c = let s = c in
 pub record_at-requires : goal.record_at-requires
 record_at-requires c = omega (arith, (top (goal.at.record_at-requires c).Start).signals, (start (goal.at.record_at-requires c).At-loop-x).requires.1)
 
-pub word_at-w-requires : goal.word_at-w-requires
-word_at-w-requires c =
-    let s = (goal.at.word_at-w-requires c).Start in
+pub word_at-requires : goal.word_at-requires
+word_at-requires c =
+    let s = (goal.at.word_at-requires c).Start in
     omega (arith, s.requires.1, (top s).fixed, c.record_at.ensures)
 
 pub overflow_add-x : goal.overflow_add-x
@@ -52,13 +52,13 @@ loop-x-preserved c =
     let s = c in
     let image = s.args.image.now in
     let x = l.loop-x.x in
-    let word : to_z w32 (of_z w32 c.word_at-w.result) ≡ word_at image (4 + 6 * x) = kept _ c.word_at-w.type_inv ∙
-    c.word_at-w.ensures ∙ ap (word_at image) c.record_at.ensures in
+    let word : to_z w32 (of_z w32 c.word_at.result) ≡ word_at image (4 + 6 * x) = kept _ c.word_at.type_inv ∙
+    c.word_at.ensures ∙ ap (word_at image) c.record_at.ensures in
     let room : x + 1 < length (set s.args.state.now 0 (pos 0)) =
     omega (arith, length-set s.args.state.now 0 (pos 0), s.requires.2) in (
       ap₂ (λ (t : List ℤ) (w : ℤ). set t (x + 1) w) l.loop-x.invariant.0 word ∙
           begun_more image x (set s.args.state.now 0 (pos 0)) room,
-      length-set l.loop-x.state (x + 1) (to_z w32 (of_z w32 c.word_at-w.result)) ∙ l.loop-x.invariant.1,
+      length-set l.loop-x.state (x + 1) (to_z w32 (of_z w32 c.word_at.result)) ∙ l.loop-x.invariant.1,
       omega arith,
     )
 

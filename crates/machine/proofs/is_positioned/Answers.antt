@@ -6,7 +6,6 @@ use lib.ListN.{get_or}
 use Rattle.model.specs.Rules.Machine.{hyper_of}
 use Rattle.image_valid.proofs.Parts.{head, formed}
 use Rattle.machine.proofs.Lists.{Position, position, no-position}
-use borrow.Author.Rules.{rules}
 use Rattle.machine.proofs.is_positioned.Goals as goal
 use Rattle.machine.proofs.is_positioned.Goals.{Else-position-lt0}
 

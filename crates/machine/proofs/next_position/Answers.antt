@@ -5,7 +5,6 @@ use borrow.Author.Tests.{eq-eqb, ne_eqb}
 use mir.Syntax.{w32}
 use mir.ValLaws.{to_z_pos}
 use Rattle.model.specs.Rules.Machine.{next_position}
-use borrow.Author.Rules.{rules}
 use Rattle.machine.proofs.next_position.Goals as goal
 
 pub returns-then-c-h : goal.returns-then-c-h

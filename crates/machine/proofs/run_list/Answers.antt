@@ -4,7 +4,6 @@ use Prim.Native.Nat.{◌+◌, ◌≤◌}
 use native.Mathlib.Omega.{arith}
 use Rattle.model.specs.Rules.Machine.{list_of}
 use Rattle.image_valid.proofs.Parts.{Head, Lists, head, lists, inside, formed}
-use borrow.Author.Rules.{rules}
 use Rattle.machine.proofs.run_list.Goals as goal
 use Rattle.machine.proofs.run_list.Goals.{After-list_offset-to, Start}
 

@@ -4,7 +4,6 @@ use mathlib.Core.Path.{refl}
 use native.Mathlib.Omega.{arith}
 use Rattle.image_valid.proofs.Parts.{Head, TablePart, head, table, formed}
 use Rattle.machine.specs.Runnable.{table_in}
-use borrow.Author.Rules.{rules}
 use Rattle.machine.proofs.table_of.Goals as goal
 use Rattle.machine.proofs.table_of.Goals.{After-code_offset-to, Start}
 

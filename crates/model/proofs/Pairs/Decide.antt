@@ -1,4 +1,5 @@
 -- The tests decide the statements: line, period rule, shared cycles and order of a read, and the searches. Assumes nothing.
+use Rattle.std.specs.Prelude.{Option, Some, None}
 use Prim.Native.Nat.{ℕ, zero, suc, ◌+◌, ◌*◌, ◌/◌, ◌%◌, ◌≤◌, ◌<◌, min}
 use mathlib.Core.Bool.{Bool, true, false, cond, not, ◌&&◌, ◌||◌, beq, true≢false, false≢true, and-eq-true_iff}
 use mathlib.Core.List.{List, [], ◌∷◌}
@@ -41,8 +42,6 @@ use Rattle.model.specs.Rules.Reads.{
 }
 use Rattle.model.specs.Rules.Schedule.{Schedule, phase_of}
 use Rattle.model.specs.Rules.Search.{first_from, first_below, is_found, found_or, all_below}
-use Rattle.model.specs.declared.Found.{Found}
-use Rattle.model.specs.declared.Found.TheVariants.{At, Nowhere}
 use Rattle.model.specs.declared.Index.{Index}
 use Rattle.model.specs.declared.Index.TheVariants.{Fixed, Open}
 use Rattle.model.specs.declared.Kind.{Kind}
@@ -199,9 +198,9 @@ for-put LastWhen s w r h = not-before s w r h
 for-put Current s w r h = lt-ltb _ _ h
 
 -- What a search through the n numbers from i on has found: the least that passes, or nothing as none passes.
-abbrev pub IsFirst : ℕ → ℕ → (ℕ → Bool) → Found → Type 0
-IsFirst i n test (At j) = (i ≤ j) × (j < i + n) × (test j ≡ true) × ((m : ℕ) → i ≤ m → m < j → test m ≡ false)
-IsFirst i n test Nowhere = (m : ℕ) → i ≤ m → m < i + n → test m ≡ false
+abbrev pub IsFirst : ℕ → ℕ → (ℕ → Bool) → Option ℕ → Type 0
+IsFirst i n test (Some j) = (i ≤ j) × (j < i + n) × (test j ≡ true) × ((m : ℕ) → i ≤ m → m < j → test m ≡ false)
+IsFirst i n test None = (m : ℕ) → i ≤ m → m < i + n → test m ≡ false
 
 pub from_first : (i n : ℕ) (test : ℕ → Bool) → IsFirst i n test (first_from i n test)
 unfolding first_from
@@ -216,36 +215,36 @@ from_first i (suc n) test = go (test i) refl (first_from (suc i) n test) (from_f
         split (yes g) = h m g high
         split (no g) = let q : m ≡ i = omega arith in rw q e
 
-    shift : test i ≡ false → (f : Found) → IsFirst (suc i) n test f → IsFirst i (suc n) test f
-    shift e (At j) h = (omega arith, omega arith, h.2, wider e j h.3)
-    shift e Nowhere h = wider e (i + suc n) (λ m low high. h m low (omega arith))
+    shift : test i ≡ false → (f : Option ℕ) → IsFirst (suc i) n test f → IsFirst i (suc n) test f
+    shift e (Some j) h = (omega arith, omega arith, h.2, wider e j h.3)
+    shift e None h = wider e (i + suc n) (λ m low high. h m low (omega arith))
 
-    go : (b : Bool) → test i ≡ b → (f : Found) → IsFirst (suc i) n test f →
-        IsFirst i (suc n) test (elim b [ true ↦ At i | false ↦ f ])
+    go : (b : Bool) → test i ≡ b → (f : Option ℕ) → IsFirst (suc i) n test f →
+        IsFirst i (suc n) test (elim b [ true ↦ Some i | false ↦ f ])
     go true e f h = (omega arith, omega arith, e, λ m low high. absurd (omega arith))
     go false e f h = shift e f h
 
 -- There is one first.
-pub first-is : (i n : ℕ) (test : ℕ → Bool) (f : Found) → IsFirst i n test f → f ≡ first_from i n test
+pub first-is : (i n : ℕ) (test : ℕ → Bool) (f : Option ℕ) → IsFirst i n test f → f ≡ first_from i n test
 first-is i n test f h = same f (first_from i n test) h (from_first i n test)
   where
-    least : (j k : ℕ) → IsFirst i n test (At j) → IsFirst i n test (At k) → Dec (j < k) → Dec (k < j) → j ≡ k
+    least : (j k : ℕ) → IsFirst i n test (Some j) → IsFirst i n test (Some k) → Dec (j < k) → Dec (k < j) → j ≡ k
     least j k a b (yes l) r = absurd (true≢false (sym a.2 ∙ b.3 j a.0 l))
     least j k a b (no g) (yes l) = absurd (true≢false (sym b.2 ∙ a.3 k b.0 l))
     least j k a b (no g) (no u) = omega arith
 
-    same : (f g : Found) → IsFirst i n test f → IsFirst i n test g → f ≡ g
-    same (At j) (At k) a b = ap At (least j k a b (dec_lt j k) (dec_lt k j))
-    same (At j) Nowhere a b = absurd (true≢false (sym a.2 ∙ b j a.0 a.1))
-    same Nowhere (At k) a b = absurd (true≢false (sym b.2 ∙ a k b.0 b.1))
-    same Nowhere Nowhere a b = refl
+    same : (f g : Option ℕ) → IsFirst i n test f → IsFirst i n test g → f ≡ g
+    same (Some j) (Some k) a b = ap Some (least j k a b (dec_lt j k) (dec_lt k j))
+    same (Some j) None a b = absurd (true≢false (sym a.2 ∙ b j a.0 a.1))
+    same None (Some k) a b = absurd (true≢false (sym b.2 ∙ a k b.0 b.1))
+    same None None a b = refl
 
 module _ (n : ℕ) (test : ℕ → Bool) where
-  pub first-below : (f : Found) → IsFirst 0 n test f → first_below n test ≡ f
+  pub first-below : (f : Option ℕ) → IsFirst 0 n test f → first_below n test ≡ f
   unfolding first_below
   first-below f h = sym (first-is 0 n test f h)
 
-  pub is-first : (f : Found) → first_below n test ≡ f → IsFirst 0 n test f
+  pub is-first : (f : Option ℕ) → first_below n test ≡ f → IsFirst 0 n test f
   unfolding first_below
   is-first f e = rw e at (from_first 0 n test)
 
@@ -253,16 +252,16 @@ module _ (n : ℕ) (test : ℕ → Bool) where
   pub is_found-true : is_found (first_below n test) ≡ true → (j : ℕ) × (j < n) × (test j ≡ true)
   is_found-true e = go (first_below n test) refl e
     where
-      go : (f : Found) → first_below n test ≡ f → is_found f ≡ true → (j : ℕ) × (j < n) × (test j ≡ true)
-      go (At j) q t = let h = is-first (At j) q in (j, omega arith, h.2)
-      go Nowhere q t = absurd (false≢true t)
+      go : (f : Option ℕ) → first_below n test ≡ f → is_found f ≡ true → (j : ℕ) × (j < n) × (test j ≡ true)
+      go (Some j) q t = let h = is-first (Some j) q in (j, omega arith, h.2)
+      go None q t = absurd (false≢true t)
 
   pub true-is_found : (j : ℕ) → j < n → test j ≡ true → is_found (first_below n test) ≡ true
   true-is_found j lt e = go (first_below n test) refl
     where
-      go : (f : Found) → first_below n test ≡ f → is_found f ≡ true
-      go (At k) q = refl
-      go Nowhere q = absurd (false≢true (sym (is-first Nowhere q j (omega arith) (omega arith)) ∙ e))
+      go : (f : Option ℕ) → first_below n test ≡ f → is_found f ≡ true
+      go (Some k) q = refl
+      go None q = absurd (false≢true (sym (is-first None q j (omega arith) (omega arith)) ∙ e))
 
 -- Every number below n passes.
 pub all_true : (n : ℕ) (test : ℕ → Bool) → all_below n test ≡ true → (i : ℕ) → i < n → test i ≡ true
@@ -303,10 +302,10 @@ all-fails n test i lt h = go (all_below n test) refl
     go false e = refl
 
 -- The search for an index settles the one that meets the line.
-pub settle-line : (kind : Kind) (w r : Rate) (n i : ℕ) → settle kind w r n ≡ At i → (i < n) × Line kind w r i
+pub settle-line : (kind : Kind) (w r : Rate) (n i : ℕ) → settle kind w r n ≡ Some i → (i < n) × Line kind w r i
 unfolding settle
 settle-line kind w r n i e =
-    let h = is-first n (line kind w r) (At i) e in (omega arith, line-true kind w r i h.2)
+    let h = is-first n (line kind w r) (Some i) e in (omega arith, line-true kind w r i h.2)
 
 -- A read is met.
 abbrev pub InRange : ℕ → Index → Type 0
@@ -318,9 +317,9 @@ pub holds-line : (kind : Kind) (w r : Rate) (n : ℕ) (index : Index) → InRang
 holds-line kind w r n (Fixed i) lt e = (lt, line-true kind w r i e)
 holds-line kind w r n Open u e = go (settle kind w r n) refl e
   where
-    go : (f : Found) → settle kind w r n ≡ f → is_found f ≡ true → (found_or 0 f < n) × Line kind w r (found_or 0 f)
-    go (At i) q t = settle-line kind w r n i q
-    go Nowhere q t = absurd (false≢true t)
+    go : (f : Option ℕ) → settle kind w r n ≡ f → is_found f ≡ true → (found_or 0 f < n) × Line kind w r (found_or 0 f)
+    go (Some i) q t = settle-line kind w r n i q
+    go None q t = absurd (false≢true t)
 
 -- What the line of a read says, it says of the index that the search settles.
 pub line-settled : (kind : Kind) (w r : Rate) (n : ℕ) (index : Index) → LineHolds kind w r n index →

@@ -1,4 +1,5 @@
 -- The hypercycle is the least common multiple of all periods, if that is at most 240. Assumes nothing.
+use Rattle.std.specs.Prelude.{Option, Some, None}
 use Prim.Native.Nat.{ℕ, zero, suc, ◌%◌, ◌≤◌, ◌<◌, ◌∣◌}
 use mathlib.Core.Bool.{Bool, true, false, false≢true, and-eq-true_iff}
 use mathlib.Core.List.{List, [], ◌∷◌}
@@ -16,8 +17,6 @@ use Rattle.model.specs.Rules.Outcome.{accepted, refuse}
 use Rattle.model.specs.Rules.Program.{Program, Signal, no_signal}
 use Rattle.model.specs.Rules.Rates.{is_multiple, hypercycle_of, hypercycle}
 use Rattle.model.specs.Rules.Search.{first_below}
-use Rattle.model.specs.declared.Found.{Found}
-use Rattle.model.specs.declared.Found.TheVariants.{At, Nowhere}
 use Rattle.model.proofs.Pairs.Decide.{is-first}
 use Rattle.model.proofs.Basics.Outcomes.{accepted≢refused}
 
@@ -57,9 +56,9 @@ module _ (p : Program) where
   never n g zero le v = omega (arith, v.positive)
   never n g (suc m) le v = fails m (g m (omega arith) (omega arith)) v
 
-  found : (k : ℕ) → first_below 240 test ≡ At k → Least p (suc k)
+  found : (k : ℕ) → first_below 240 test ≡ Some k → Least p (suc k)
   found k q =
-      let g = is-first 240 test (At k) q in
+      let g = is-first 240 test (Some k) q in
       record {
         multiple = passes k g.2;
         bound = omega arith;
@@ -70,32 +69,32 @@ module _ (p : Program) where
       go m v g (yes l) = l
       go m v g (no l) = absurd (never k g m (omega arith) v)
 
-  nowhere : first_below 240 test ≡ Nowhere → (m : ℕ) → m ≤ 240 → Multiple p m → ⊥
-  nowhere q m le v = never 240 (λ k l h. is-first 240 test Nowhere q k l (omega arith)) m le v
+  nowhere : first_below 240 test ≡ None → (m : ℕ) → m ≤ 240 → Multiple p m → ⊥
+  nowhere q m le v = never 240 (λ k l h. is-first 240 test None q k l (omega arith)) m le v
 
   pub hypercycle-least : (h : ℕ) → (hypercycle p ≡ accepted h) ↔ Least p h
   unfolding hypercycle test
   hypercycle-least h = (λ e. forth (first_below 240 test) refl e, λ l. back l (first_below 240 test) refl)
     where
-      forth : (f : Found) → first_below 240 test ≡ f → hypercycle_of f ≡ accepted h → Least p h
-      forth (At k) q e = let same : suc k ≡ h = cc in rw (← same) (found k q)
-      forth Nowhere q e = absurd (accepted≢refused _ h _ e refl)
+      forth : (f : Option ℕ) → first_below 240 test ≡ f → hypercycle_of f ≡ accepted h → Least p h
+      forth (Some k) q e = let same : suc k ≡ h = cc in rw (← same) (found k q)
+      forth None q e = absurd (accepted≢refused _ h _ e refl)
 
-      back : Least p h → (f : Found) → first_below 240 test ≡ f → hypercycle_of f ≡ accepted h
-      back l (At k) q =
+      back : Least p h → (f : Option ℕ) → first_below 240 test ≡ f → hypercycle_of f ≡ accepted h
+      back l (Some k) q =
           let g = found k q in
           let same : suc k ≡ h = omega (arith, g.least h l.multiple, l.least (suc k) g.multiple) in
           ap accepted same
-      back l Nowhere q = absurd (nowhere q h l.bound l.multiple)
+      back l None q = absurd (nowhere q h l.bound l.multiple)
 
   pub hypercycle-none : (hypercycle p ≡ refuse 9 0) ↔ ((m : ℕ) → m ≤ 240 → Multiple p m → ⊥)
   unfolding hypercycle test
   hypercycle-none = (λ e. forth (first_below 240 test) refl e, λ h. back h (first_below 240 test) refl)
     where
-      forth : (f : Found) → first_below 240 test ≡ f → hypercycle_of f ≡ refuse 9 0 → (m : ℕ) → m ≤ 240 → Multiple p m → ⊥
-      forth (At k) q e = absurd (accepted≢refused _ (suc k) _ refl e)
-      forth Nowhere q e = nowhere q
+      forth : (f : Option ℕ) → first_below 240 test ≡ f → hypercycle_of f ≡ refuse 9 0 → (m : ℕ) → m ≤ 240 → Multiple p m → ⊥
+      forth (Some k) q e = absurd (accepted≢refused _ (suc k) _ refl e)
+      forth None q e = nowhere q
 
-      back : ((m : ℕ) → m ≤ 240 → Multiple p m → ⊥) → (f : Found) → first_below 240 test ≡ f → hypercycle_of f ≡ refuse 9 0
-      back h (At k) q = let g = found k q in absurd (h (suc k) g.bound g.multiple)
-      back h Nowhere q = refl
+      back : ((m : ℕ) → m ≤ 240 → Multiple p m → ⊥) → (f : Option ℕ) → first_below 240 test ≡ f → hypercycle_of f ≡ refuse 9 0
+      back h (Some k) q = let g = found k q in absurd (h (suc k) g.bound g.multiple)
+      back h None q = refl

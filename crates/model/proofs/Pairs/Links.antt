@@ -1,4 +1,5 @@
 -- The links of a chain, from the last to the first: each read on the way back is met, and uses what is stored. Assumes nothing.
+use Rattle.std.specs.Prelude.{Some}
 use Prim.Native.Nat.{ℕ, ◌+◌, ◌≤◌, ◌<◌, zero, suc, ◌*◌}
 use mathlib.Core.Bool.{Bool, true, false, cond, and-eq-true_iff}
 use mathlib.Core.List.{List, [], ◌∷◌, map, reverse, reverse_aux}
@@ -12,7 +13,6 @@ use Rattle.model.specs.Rules.Program.{Program, Link, Chain, Read, count, signal_
 use Rattle.model.specs.Rules.Rates.{count_reads, is_linked}
 use Rattle.model.specs.Rules.Schedule.{Schedule}
 use Rattle.model.specs.Rules.Reads.{rate_of, run_cycle, stored, before, settled}
-use Rattle.model.specs.declared.Found.TheVariants.{At}
 use Rattle.model.proofs.Basics.All.{all-reverse_aux, all_of_map}
 use Rattle.model.proofs.Pairs.Decide.{met-settled, for-put}
 use Rattle.model.proofs.Pairs.Lines.{met-index}
@@ -97,7 +97,7 @@ module _ (p : Program) (s : Schedule) where
 module _ (p : Program) (s : Schedule) where
   module _ (acc : Feasible p s) where
     -- The way back ends no later than it starts.
-    pub back-before : (ρs : List Read) (r k m : ℕ) → r < count p → ChainMet p s r ρs → back p s r k ρs ≡ At m →
+    pub back-before : (ρs : List Read) (r k m : ℕ) → r < count p → ChainMet p s r ρs → back p s r k ρs ≡ Some m →
         run_cycle (rate_of p s (source p s r ρs)) m ≤ run_cycle (rate_of p s r) k
     unfolding back source
     back-before [] r k m lt ch e = let q : m ≡ k = cc in omega (arith, ap (◌* (signal_at p r).period) q)
@@ -111,8 +111,8 @@ module _ (p : Program) (s : Schedule) where
         one true = omega arith
         one false = omega arith
 
-        go : (j : ℕ) → used p s r k ρ ≡ j → onward (λ m. back p s w m ρs) j ≡ At m →
-            ((j : ℕ) → back p s w j ρs ≡ At m → run_cycle (rate_of p s (source p s w ρs)) m ≤ run_cycle (rate_of p s w) j) →
+        go : (j : ℕ) → used p s r k ρ ≡ j → onward (λ m. back p s w m ρs) j ≡ Some m →
+            ((j : ℕ) → back p s w j ρs ≡ Some m → run_cycle (rate_of p s (source p s w ρs)) m ≤ run_cycle (rate_of p s w) j) →
             run_cycle (rate_of p s (source p s w ρs)) m ≤ run_cycle (rate_of p s r) k
         go zero u f ih = let z : ◌≡◌ {A = ℕ} 0 1 = cc in absurd (omega arith)
         go (suc j) u f ih =
@@ -122,7 +122,7 @@ module _ (p : Program) (s : Schedule) where
 
     module _ (r : ℕ) (ρs : List Read) (lt : r < count p) (ch : ChainMet p s r ρs) where
       -- A latency is 1 more than the cycles from the element of the first link to the run: no difference is cut.
-      pub latency-adds : (k m : ℕ) → back p s r k ρs ≡ At m →
+      pub latency-adds : (k m : ℕ) → back p s r k ρs ≡ Some m →
           latency_of (rate_of p s r) k (rate_of p s (source p s r ρs)) m + run_cycle (rate_of p s (source p s r ρs)) m ≡
           run_cycle (rate_of p s r) k + 1
       unfolding latency_of

@@ -1,4 +1,5 @@
 -- The tests on the rows' ends decide the statements over all words. Assumes nothing.
+use Rattle.std.specs.Prelude.{Option, Some, None}
 use mathlib.Core.Path.{◌≡◌, refl, sym, ap, ◌∙◌}
 use mathlib.Core.Bool.{Bool, true, false, not, ◌&&◌, ◌||◌, false≢true, true≢false, and-eq-true_iff}
 use mathlib.Core.List.{List, [], ◌∷◌}
@@ -11,8 +12,6 @@ use lib.ListN.{length}
 use lib.Signed.{lt_z}
 use Rattle.model.specs.Rules.Search.{first_below, first_from, is_found, all_below}
 use Rattle.model.specs.Rules.Word.{eq_z}
-use Rattle.model.specs.declared.Found.{Found}
-use Rattle.model.specs.declared.Found.TheVariants.{At, Nowhere}
 use Rattle.model.proofs.Basics.Outcomes.{accepted≢refused}
 use Rattle.model.proofs.Pairs.Decide.{is-first, is_found-true, true-is_found, all_true}
 use Rattle.model.specs.Rules.Cover.{
@@ -169,9 +168,9 @@ module _ (rows : List Row) (up : AllUpright rows) where
       apart_none (row_at rows m) (row_at rows n) (up m (omega arith)) (up n l) (apart-earlier n l e m k) s.0 s.1
       (lies-contains s.2) (lies-contains s.3)
 
-  pub first-meets : (n : ℕ) → first_below (length rows) (meets_earlier rows) ≡ At n → FirstMeets rows n
+  pub first-meets : (n : ℕ) → first_below (length rows) (meets_earlier rows) ≡ Some n → FirstMeets rows n
   first-meets n e =
-      let h = is-first (length rows) (meets_earlier rows) (At n) e in
+      let h = is-first (length rows) (meets_earlier rows) (Some n) e in
       let l : n < length rows = omega arith in
       record {
         inside = l;
@@ -179,11 +178,11 @@ module _ (rows : List Row) (up : AllUpright rows) where
         none = λ k b m c s. meets-false k (omega arith) (h.3 k (omega arith) b) m c s;
       }
 
-  pub none-meets : first_below (length rows) (meets_earlier rows) ≡ Nowhere → Disjoint rows
+  pub none-meets : first_below (length rows) (meets_earlier rows) ≡ None → Disjoint rows
   none-meets e w f m n p q = go (dec_lt m n) (dec_lt n m)
     where
       h : (m : ℕ) → 0 ≤ m → m < 0 + length rows → meets_earlier rows m ≡ false
-      h = is-first (length rows) (meets_earlier rows) Nowhere e
+      h = is-first (length rows) (meets_earlier rows) None e
 
       go : Dec (m < n) → Dec (n < m) → m ≡ n
       go (yes l) d = absurd (meets-false n q.inside (h n (omega arith) (omega (arith, q.inside))) m l (w, f, p, q))
@@ -320,11 +319,11 @@ module _ (rows : List Row) (up : AllUpright rows) where
   unfolding covering ◌▷◌ provided
   judged-covers h = go (first_below (length rows) (meets_earlier rows)) refl (no_gap rows) refl h
     where
-      go : (f : Found) → first_below (length rows) (meets_earlier rows) ≡ f → (t : Bool) → no_gap rows ≡ t →
+      go : (f : Option ℕ) → first_below (length rows) (meets_earlier rows) ≡ f → (t : Bool) → no_gap rows ≡ t →
           (meeting_of rows f ▷ λ _. provided t 30 0) ≡ accepted tt → Covers rows
-      go (At n) e t k h = absurd (accepted≢refused _ tt _ h refl)
-      go Nowhere e true k h = λ w f. let s = gapless-full k w f in (s.0, s.1, λ m l. none-meets e w f m s.0 l s.1)
-      go Nowhere e false k h = absurd (accepted≢refused _ tt _ h refl)
+      go (Some n) e t k h = absurd (accepted≢refused _ tt _ h refl)
+      go None e true k h = λ w f. let s = gapless-full k w f in (s.0, s.1, λ m l. none-meets e w f m s.0 l s.1)
+      go None e false k h = absurd (accepted≢refused _ tt _ h refl)
 
 -- Rows that pass are some: the lowest word lies in one.
 pub covered-some : (rows : List Row) → covering rows ≡ accepted tt → 0 < length rows

@@ -1,5 +1,6 @@
 -- Decoders: a chain of picks by the byte, and operands that may be cut or out of range; which bytes are commands.
 -- Assumes nothing.
+use Rattle.std.specs.Prelude.{Option, Some, None}
 use Prim.Native.Nat.{ℕ, ◌+◌, ◌≤◌, ◌<◌}
 use mathlib.Core.Bool.{Bool, true, false, cond, false≢true, and-eq-true_iff}
 use mathlib.Core.List.{List}
@@ -25,8 +26,6 @@ use Rattle.model.specs.declared.Operator.TheVariants as Operator
 use Rattle.model.specs.declared.Sampled.{Sampled}
 use Rattle.model.specs.declared.Unary.{Unary}
 use Rattle.model.specs.declared.Unary.TheVariants.{Negate, Table}
-use Rattle.model.specs.declared.Width.{Width}
-use Rattle.model.specs.declared.Width.TheVariants as Width
 
 -- What holds of both sides of a test holds of what it chooses.
 module _ {C : Type 0} (Q : C → Type 0) where
@@ -211,8 +210,8 @@ sampled-byte b t = go (eqb b 0x23) (eqb b 0x24) refl refl ((and-eq-true_iff (leb
 
 low_byte : (b : ℕ) → 0x30 ≤ b → b ≤ 0x33 → OperatorByte b
 low_byte b least most =
-    let Q : Width → Type 0 = λ w. OperatorByte b in
-    let x = Width.Unlisted in
+    let Q : Option ℕ → Type 0 = λ w. OperatorByte b in
+    let x = None in
     picked Q b 0x30 x x (OperatorByte.binary Add) (λ a.
     picked Q b 0x31 x x (OperatorByte.binary Sub) (λ s.
     picked Q b 0x32 x x (OperatorByte.binary Mul) (λ m.
@@ -220,8 +219,8 @@ low_byte b least most =
 
 high_byte : (b : ℕ) → 0x34 ≤ b → b ≤ 0x36 → OperatorByte b
 high_byte b least most =
-    let Q : Width → Type 0 = λ w. OperatorByte b in
-    let x = Width.Unlisted in
+    let Q : Option ℕ → Type 0 = λ w. OperatorByte b in
+    let x = None in
     picked Q b 0x34 x x (OperatorByte.binary Same) (λ s.
     picked Q b 0x35 x x (OperatorByte.binary Min) (λ m.
     OperatorByte.binary Max (omega (arith, s, m, least, most))))
@@ -229,12 +228,12 @@ high_byte b least most =
 binary-byte : (b : ℕ) → within 0x30 0x36 b ≡ true → OperatorByte b
 binary-byte b t =
     let h = (and-eq-true_iff (leb 0x30 b) (leb b 0x36)).0 t in
-    let Q : Width → Type 0 = λ w. OperatorByte b in
-    let x = Width.Unlisted in
+    let Q : Option ℕ → Type 0 = λ w. OperatorByte b in
+    let x = None in
     chosen-all Q (leb b 0x33) x x (λ u. low_byte b (leb-true _ _ h.0) (leb-true _ _ u))
     (λ u. high_byte b (leb-false _ _ u) (leb-true _ _ h.1))
 
-abbrev Listed : ℕ → Width → Type 0
+abbrev Listed : ℕ → Option ℕ → Type 0
 Listed b w = is_listed w ≡ true → OperatorByte b
 
 pub operator-byte : (b : ℕ) → (is_operator b ≡ true) ↔ OperatorByte b

@@ -1,6 +1,6 @@
 -- The cover of a table: if a program has a row or a TABLE, every word lies in exactly one row (29, 30). The same of an image's
 -- rows.
-use Rattle.std.specs.Prelude.{ℕ, zero, suc, ◌+◌, ◌*◌, Bool, cond, not, ◌&&◌, ◌||◌, List, leb, ltb, eqb, ℤ, pos, negsuc, length}
+use Rattle.std.specs.Prelude.{Option, Some, None, ℕ, zero, suc, ◌+◌, ◌*◌, Bool, cond, not, ◌&&◌, ◌||◌, List, leb, ltb, eqb, ℤ, pos, negsuc, length}
 use Rattle.std.proofs.Math.IntN.{suc_ℤ}
 use Rattle.std.specs.Int.Signed.{lt_z, le_z}
 use Rattle.model.specs.Rules.Outcome.{Outcome, accepted, refuse, ◌▷◌, provided}
@@ -8,8 +8,6 @@ use Rattle.model.specs.Rules.Program.{Program, lookups}
 use Rattle.model.specs.Rules.Search.{first_below, is_found, all_below}
 use Rattle.model.specs.Rules.Table.{Row, row_at, area_rows}
 use Rattle.model.specs.Rules.Word.{byte_at, eq_z}
-use Rattle.model.specs.declared.Found.{Found}
-use Rattle.model.specs.declared.Found.TheVariants.{At, Nowhere}
 
 -- The ends of the word range, −2^31 and 2^31 − 1.
 abbrev pub least_word : ℤ
@@ -27,12 +25,12 @@ unfoldable pub meets_earlier : List Row → ℕ → Bool
 meets_earlier rows n = not (all_below n (λ m. apart (row_at rows m) (row_at rows n)))
 
 -- 29 at the first ROW that meets an earlier one.
-abbrev pub meeting_of : List Row → Found → Outcome (Unit {0})
-meeting_of rows (At n) = refuse 29 (row_at rows n).place
-meeting_of rows Nowhere = accepted tt
+abbrev pub meeting_of : List Row → Option ℕ → Outcome (Unit {0})
+meeting_of rows (Some n) = refuse 29 (row_at rows n).place
+meeting_of rows None = accepted tt
 
 -- The first row that starts at z.
-unfoldable pub starting_at : List Row → ℤ → Found
+unfoldable pub starting_at : List Row → ℤ → Option ℕ
 starting_at rows z = first_below (length rows) (λ n. eq_z (row_at rows n).low z)
 
 -- Where a row ends, the range does or another row starts.

@@ -1,20 +1,18 @@
 -- Join: parts that are compiled alone, in one lent buffer, and links between them, to one image.
-use Rattle.std.specs.Prelude.{ℕ, zero, suc, ◌+◌, ◌*◌, ◌/◌, Bool, true, false, cond, not, ◌&&◌, List, [], ◌∷◌, ◌++◌, leb, ltb, eqb, length, drop, get_or}
+use Rattle.std.specs.Prelude.{Option, Some, None, Result, Ok, Err, ℕ, zero, suc, ◌+◌, ◌*◌, ◌/◌, Bool, true, false, cond, not, ◌&&◌, List, [], ◌∷◌, ◌++◌, leb, ltb, eqb, length, drop, get_or}
 use Rattle.model.specs.Rules.Compile.{Pair, pair_of}
 use Rattle.model.specs.Rules.Image.{written_of}
 use Rattle.model.specs.Rules.Load.{loaded}
 use Rattle.model.specs.Rules.Machine.{Effect, Job, effect, stretch}
-use Rattle.model.specs.Rules.Outcome.{Outcome, accepted, refused, refuse, fault, ◌▷◌, provided, lowest}
+use Rattle.model.specs.Rules.Outcome.{Outcome, accepted, refused, refuse, fault, yielded_of, ◌▷◌, provided, lowest}
 use Rattle.model.specs.Rules.Parts.{Part, PartLink, part_at, tabled_parts, wire_of, wire_read, joined_pair}
 use Rattle.model.specs.Rules.Program.{is_input, count, signal_at}
 use Rattle.model.specs.Rules.Rates.{hypercycle}
 use Rattle.model.specs.Rules.Reads.{is_met}
 use Rattle.model.specs.Rules.Search.{first_below, all_below, table, join_from, sum}
 use Rattle.model.specs.Rules.Word.{byte_at}
-use Rattle.model.specs.declared.Joined.{Joined}
-use Rattle.model.specs.declared.Joined.TheVariants as Joined
-use Rattle.model.specs.declared.Found.{Found}
-use Rattle.model.specs.declared.Found.TheVariants.{At, Nowhere}
+use Rattle.model.specs.declared.Fault.{Fault}
+use Rattle.model.specs.declared.JoinFault.{JoinFault}
 
 -- Where the two texts of a part lie in the lent buffer: start and length of each.
 pub record PartTexts : Type 0 where
@@ -118,9 +116,9 @@ module _ (parts : List Part) where
       leb (4 * i + 4) (length links) && is_named (link_at links i) &&
       all_below i (λ j. not (same_input (link_at links j) (link_at links i)))
 
-  abbrev pub named_of : Found → Outcome (Unit {0})
-  named_of (At i) = refuse 31 i
-  named_of Nowhere = accepted tt
+  abbrev pub named_of : Option ℕ → Outcome (Unit {0})
+  named_of (Some i) = refuse 31 i
+  named_of None = accepted tt
 
   -- 31 at the lowest wrong link.
   unfoldable pub named : List ℕ → Outcome (Unit {0})
@@ -162,25 +160,27 @@ joined_pair_of buffer numbers links =
     joined_verdict parts (links_of links)  -- 4, 9, 14, 15
 
 -- The part that a refusal names: the first that is refused alone, where the texts are lent.
-abbrev pub named_after : Outcome (Unit {0}) → Found → Found
+abbrev pub named_after : Outcome (Unit {0}) → Option ℕ → Option ℕ
 named_after (accepted u) f = f
-named_after (refused f) k = Nowhere
+named_after (refused f) k = None
 
-unfoldable pub part_named : List ℕ → List ℕ → Found
+unfoldable pub part_named : List ℕ → List ℕ → Option ℕ
 part_named buffer numbers =
     named_after (lent buffer numbers)
     (first_below (parts_in numbers) (λ k. is_refused (part_pair buffer (texts_at numbers k))))
 
--- What the answer of join stands for: L + 4N, or the refusal's number and place; and the part that it names.
-abbrev pub joined_of : Joined → Outcome ℕ
-joined_of (Joined.Length n) = accepted n
-joined_of (Joined.Refused f) = refused f
-joined_of (Joined.RefusedIn k f) = refused f
+-- An answer without the part that its refusal names, and that part.
+abbrev pub without_part : {A : Type 0} → Result A JoinFault → Result A Fault
+without_part (Ok a) = Ok a
+without_part (Err e) = Err e.fault
 
-abbrev pub part_in : Joined → Found
-part_in (Joined.Length n) = Nowhere
-part_in (Joined.Refused f) = Nowhere
-part_in (Joined.RefusedIn k f) = At k
+abbrev pub part_in : {A : Type 0} → Result A JoinFault → Option ℕ
+part_in (Ok a) = None
+part_in (Err e) = e.part
+
+-- What the answer of join stands for: L + 4N, or the refusal's number and place.
+abbrev pub joined_of : Result ℕ JoinFault → Outcome ℕ
+joined_of r = yielded_of (without_part r)
 
 -- The job of join: 17 where the image's buffer is shorter than L + 4N; bytes past that stay.
 abbrev pub join_job : List ℕ → List ℕ → List ℕ → List ℕ → Outcome (Job ℕ ℕ)

@@ -1,12 +1,10 @@
 -- Latency (16): how old the first link's element is at a run of the last.
-use Rattle.std.specs.Prelude.{ℕ, zero, suc, ◌+◌, ◌*◌, ◌-◌, ◌/◌, Bool, true, false, cond, not, List, [], ◌∷◌, map, reverse, leb, ltb, eqb, length}
+use Rattle.std.specs.Prelude.{Option, Some, None, ℕ, zero, suc, ◌+◌, ◌*◌, ◌-◌, ◌/◌, Bool, true, false, cond, not, List, [], ◌∷◌, map, reverse, leb, ltb, eqb, length}
 use Rattle.model.specs.Rules.Outcome.{Outcome, fault, lowest}
 use Rattle.model.specs.Rules.Program.{Program, Chain, Read, signal_at, body_reads}
 use Rattle.model.specs.Rules.Reads.{Rate, rate_of, run_cycle, uses, settled}
 use Rattle.model.specs.Rules.Schedule.{Schedule}
 use Rattle.model.specs.Rules.Search.{first_below, is_found, all_below, join_from}
-use Rattle.model.specs.declared.Found.{Found}
-use Rattle.model.specs.declared.Found.TheVariants.{At, Nowhere}
 use Rattle.model.specs.declared.Index.TheVariants.{Fixed}
 use Rattle.model.specs.declared.Kind.TheVariants.{Now}
 use Rattle.model.specs.declared.Mode.{Mode}
@@ -30,8 +28,8 @@ abbrev pub backwards : Chain → List ℕ
 backwards c = reverse (map (λ l. l.signal) c.links)
 
 -- Entry 0 of a history is no element; entry m + 1 is element m.
-abbrev pub onward : (ℕ → Found) → ℕ → Found
-onward go zero = Nowhere
+abbrev pub onward : (ℕ → Option ℕ) → ℕ → Option ℕ
+onward go zero = None
 onward go (suc m) = go m
 
 -- Latency: the cycle of run k of the last link minus the cycle of element m of the first, by their rates r and a, and 1 more,
@@ -47,8 +45,8 @@ module _ (p : Program) (s : Schedule) where
 
   -- The element of the first link at which one ends that goes back from element k of r, if every element on the way is 0
   -- or more.
-  unfoldable pub back : ℕ → ℕ → List Read → Found
-  back r k [] = At k
+  unfoldable pub back : ℕ → ℕ → List Read → Option ℕ
+  back r k [] = Some k
   back r k (ρ ∷ ρs) = onward (λ m. back ρ.operands.signal m ρs) (used r k ρ)
 
   -- The signal at which that ends.
@@ -56,21 +54,21 @@ module _ (p : Program) (s : Schedule) where
   source r [] = r
   source r (ρ ∷ ρs) = source ρ.operands.signal ρs
 
-  abbrev pub latency_from : ℕ → ℕ → ℕ → Found → Found
-  latency_from r k a (At m) = At (latency_of (rate_of p s r) k (rate_of p s a) m)
-  latency_from r k a Nowhere = Nowhere
+  abbrev pub latency_from : ℕ → ℕ → ℕ → Option ℕ → Option ℕ
+  latency_from r k a (Some m) = Some (latency_of (rate_of p s r) k (rate_of p s a) m)
+  latency_from r k a None = None
 
   -- The latency of run k of r over these reads, if the run counts.
-  unfoldable pub run_latency : ℕ → List Read → ℕ → Found
+  unfoldable pub run_latency : ℕ → List Read → ℕ → Option ℕ
   run_latency r ρs k = latency_from r k (source r ρs) (back r k ρs)
 
-  abbrev pub is_late : ℕ → Found → Bool
-  is_late bound (At l) = ltb bound l
-  is_late bound Nowhere = false
+  abbrev pub is_late : ℕ → Option ℕ → Bool
+  is_late bound (Some l) = ltb bound l
+  is_late bound None = false
 
-  abbrev pub is_in_time : ℕ → Found → Bool
-  is_in_time bound (At l) = leb l bound
-  is_in_time bound Nowhere = false
+  abbrev pub is_in_time : ℕ → Option ℕ → Bool
+  is_in_time bound (Some l) = leb l bound
+  is_in_time bound None = false
 
   -- The same, decided by `window` runs from run `from` on.
   abbrev pub is_timely : Mode → ℕ → List Read → ℕ → ℕ → ℕ → Bool

@@ -1,6 +1,6 @@
 -- Any image: whether it is well formed, and what reset and cycle make of it (20 to 23). What is called an image here is the first
 -- L bytes of what is lent, with its tail or without (`image_part`).
-use Rattle.std.specs.Prelude.{ℕ, zero, suc, ◌+◌, ◌-◌, ◌*◌, Bool, true, false, cond, ◌&&◌, ◌||◌, List, [], ◌∷◌, ◌++◌, ◌≡◌, leb, ltb, eqb, ℤ, pos, negsuc, length, get_or, take, drop, set}
+use Rattle.std.specs.Prelude.{Result, Ok, Err, ℕ, zero, suc, ◌+◌, ◌-◌, ◌*◌, Bool, true, false, cond, ◌&&◌, ◌||◌, List, [], ◌∷◌, ◌++◌, ◌≡◌, leb, ltb, eqb, ℤ, pos, negsuc, length, get_or, take, drop, set}
 use Rattle.model.specs.Rules.Cover.{area_ok}
 use Rattle.model.specs.Rules.Image.{record_at, offsets_at, lists_at, with_tail}
 use Rattle.model.specs.Rules.Outcome.{Outcome, accepted, refused, ◌▷◌, provided}
@@ -11,10 +11,7 @@ use Rattle.model.specs.Rules.Word.{byte_at, two_at, word_at, binary_word, if_wor
 use Rattle.model.specs.declared.Binary.TheVariants as Binary
 use Rattle.model.specs.declared.Code.{Code}
 use Rattle.model.specs.declared.Code.TheVariants as Code
-use Rattle.model.specs.declared.Cycled.{Cycled}
-use Rattle.model.specs.declared.Cycled.TheVariants as Cycled
-use Rattle.model.specs.declared.Ran.{Ran}
-use Rattle.model.specs.declared.Ran.TheVariants as Ran
+use Rattle.model.specs.declared.Fault.{Fault}
 use Rattle.model.specs.declared.Unary.{Unary}
 use Rattle.model.specs.declared.Unary.TheVariants.{Negate, Table}
 
@@ -284,13 +281,13 @@ effect lent (accepted job) = record { answer = accepted job.yields; left = job.l
 effect lent (refused f) = record { answer = refused f; left = lent }
 
 -- What the answers of reset and of cycle stand for.
-abbrev pub ran_of : Ran → Outcome ℕ
-ran_of Ran.Done = accepted 0
-ran_of (Ran.Refused f) = refused f
+abbrev pub ran_of : Result (Unit {0}) Fault → Outcome ℕ
+ran_of (Ok tt) = accepted 0
+ran_of (Err f) = refused f
 
-abbrev pub cycled_of : Cycled → Outcome ℕ
-cycled_of (Cycled.Commands n) = accepted n
-cycled_of (Cycled.Refused f) = refused f
+abbrev pub cycled_of : Result ℕ Fault → Outcome ℕ
+cycled_of (Ok n) = accepted n
+cycled_of (Err f) = refused f
 
 -- The job of reset.
 abbrev pub reset_job : List ℕ → List ℤ → Outcome (Job ℕ ℤ)

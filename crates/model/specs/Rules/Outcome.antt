@@ -1,8 +1,6 @@
 -- Outcomes: a value, or a refusal with its number and its place.
-use Rattle.std.specs.Prelude.{ℕ, Bool, true, false, cond, List, [], ◌∷◌, ltb}
+use Rattle.std.specs.Prelude.{Result, Ok, Err, ℕ, Bool, true, false, cond, List, [], ◌∷◌, ltb}
 use Rattle.model.specs.declared.Fault.{Fault}
-use Rattle.model.specs.declared.Yielded.{Yielded}
-use Rattle.model.specs.declared.Yielded.TheVariants as Yielded
 
 pub data Outcome (A : Type 0) : Type 0 where
   accepted : A → Outcome A
@@ -15,9 +13,9 @@ abbrev pub refuse : {A : Type 0} → ℕ → ℕ → Outcome A
 refuse number place = refused (fault number place)
 
 -- What the answer of a call that yields a number stands for.
-abbrev pub yielded_of : Yielded → Outcome ℕ
-yielded_of (Yielded.Number n) = accepted n
-yielded_of (Yielded.Refused f) = refused f
+abbrev pub yielded_of : Result ℕ Fault → Outcome ℕ
+yielded_of (Ok n) = accepted n
+yielded_of (Err f) = refused f
 
 -- One step after another. The first fault met is the one given.
 infixr 10 ◌▷◌

@@ -1,11 +1,9 @@
 -- Rates: the period rules (7, 8), the hypercycle (9), the links of chains (10).
-use Rattle.std.specs.Prelude.{ℕ, suc, ◌+◌, ◌*◌, ◌%◌, Bool, true, cond, ◌&&◌, List, [], ◌∷◌, ◌++◌, ltb, eqb}
+use Rattle.std.specs.Prelude.{Option, Some, None, ℕ, suc, ◌+◌, ◌*◌, ◌%◌, Bool, true, cond, ◌&&◌, List, [], ◌∷◌, ◌++◌, ltb, eqb}
 use Rattle.model.specs.Rules.Outcome.{Outcome, accepted, refuse, fault, lowest}
 use Rattle.model.specs.Rules.Program.{Program, Signal, Link, Read, count, signal_at, body_reads}
 use Rattle.model.specs.Rules.Search.{first_below, join_from}
 use Rattle.model.specs.declared.Fault.{Fault}
-use Rattle.model.specs.declared.Found.{Found}
-use Rattle.model.specs.declared.Found.TheVariants.{At, Nowhere}
 use Rattle.model.specs.declared.Kind.{Kind}
 use Rattle.model.specs.declared.Kind.TheVariants.{Now, Last, When, LastWhen, Current}
 
@@ -41,9 +39,9 @@ is_multiple [] h = true
 is_multiple (x ∷ xs) h = eqb (h % x.period) 0 && is_multiple xs h
 
 -- The hypercycle H: the least common multiple of all periods, at most 240.
-abbrev pub hypercycle_of : Found → Outcome ℕ
-hypercycle_of (At h) = accepted (suc h)
-hypercycle_of Nowhere = refuse 9 0
+abbrev pub hypercycle_of : Option ℕ → Outcome ℕ
+hypercycle_of (Some h) = accepted (suc h)
+hypercycle_of None = refuse 9 0
 
 unfoldable pub hypercycle : Program → Outcome ℕ
 hypercycle p = hypercycle_of (first_below 240 (λ h. is_multiple p.signals (suc h)))

@@ -1,13 +1,12 @@
 -- Reads: which element each uses, its line and its order, and when it is met (14).
 -- Elements are counted with the initial word first: entry 0 of a signal's history is its initial word (element −1 of the
 -- paper), and entry j + 1 is its element j.
-use Rattle.std.specs.Prelude.{ℕ, suc, ◌+◌, ◌*◌, ◌-◌, ◌/◌, ◌%◌, min, Bool, true, false, cond, not, ◌&&◌, ◌||◌, List, [], ◌∷◌, leb, ltb, eqb}
+use Rattle.std.specs.Prelude.{Option, ℕ, suc, ◌+◌, ◌*◌, ◌-◌, ◌/◌, ◌%◌, min, Bool, true, false, cond, not, ◌&&◌, ◌||◌, List, [], ◌∷◌, leb, ltb, eqb}
 use Rattle.std.specs.Bool.{beq}
 use Rattle.model.specs.Rules.Outcome.{Outcome, fault, lowest}
 use Rattle.model.specs.Rules.Program.{Program, Read, signal_at, body_reads}
 use Rattle.model.specs.Rules.Schedule.{Schedule, phase_of}
 use Rattle.model.specs.Rules.Search.{first_below, is_found, found_or, join_from}
-use Rattle.model.specs.declared.Found.{Found}
 use Rattle.model.specs.declared.Index.{Index}
 use Rattle.model.specs.declared.Index.TheVariants.{Fixed, Open}
 use Rattle.model.specs.declared.Kind.{Kind}
@@ -76,7 +75,7 @@ abbrev pub before : Schedule → ℕ → ℕ → Bool
 before s w r = ltb (rank s.order w) (rank s.order r)
 
 -- The index of an open read: the one from 0 to n − 1 that meets its line.
-unfoldable pub settle : Kind → Rate → Rate → ℕ → Found
+unfoldable pub settle : Kind → Rate → Rate → ℕ → Option ℕ
 settle kind w r n = first_below n (line kind w r)
 
 -- Whether the line of a read holds: for an open read, at some index.

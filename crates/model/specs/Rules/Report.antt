@@ -1,6 +1,6 @@
 -- What a pair needs, told before an image is written: L, L + 4N with the tail, the highest stack use of any signal, and the
 -- commands of each cycle.
-use Rattle.std.specs.Prelude.{ℕ, ◌+◌, ◌-◌, max, List, [], ◌∷◌, ◌++◌, length, replicate}
+use Rattle.std.specs.Prelude.{Result, Ok, Err, ℕ, ◌+◌, ◌-◌, max, List, [], ◌∷◌, ◌++◌, length, replicate}
 use Rattle.model.specs.Rules.Compile.{Pair, pair_of}
 use Rattle.model.specs.Rules.Image.{run_list, length_of, written_length}
 use Rattle.model.specs.Rules.Machine.{Effect, Job, effect}
@@ -21,8 +21,7 @@ use Rattle.model.specs.Rules.Program.{
 }
 use Rattle.model.specs.Rules.Schedule.{Schedule}
 use Rattle.model.specs.Rules.Search.{table}
-use Rattle.model.specs.declared.Reported.{Reported}
-use Rattle.model.specs.declared.Reported.TheVariants as Reported
+use Rattle.model.specs.declared.Fault.{Fault}
 use Rattle.model.specs.declared.Sizes.{Sizes}
 
 -- The commands in the code of an expression: one for each leaf and each operator.
@@ -89,6 +88,6 @@ unfoldable pub report_of : List ℕ → List ℕ → List ℕ → Effect Sizes �
 report_of program schedule counts = effect counts (report_job program schedule)
 
 -- What the answer of report stands for.
-abbrev pub reported_of : Reported → Outcome Sizes
-reported_of (Reported.Sizes x) = accepted x
-reported_of (Reported.Refused f) = refused f
+abbrev pub reported_of : Result Sizes Fault → Outcome Sizes
+reported_of (Ok x) = accepted x
+reported_of (Err f) = refused f

@@ -1,24 +1,22 @@
 -- Bounded searches and tests, and lists of numbers.
-use Rattle.std.specs.Prelude.{ℕ, zero, suc, ◌+◌, Bool, true, false, cond, ◌&&◌, List, [], ◌∷◌, ◌++◌}
-use Rattle.model.specs.declared.Found.{Found}
-use Rattle.model.specs.declared.Found.TheVariants.{At, Nowhere}
+use Rattle.std.specs.Prelude.{Option, Some, None, ℕ, zero, suc, ◌+◌, Bool, true, false, cond, ◌&&◌, List, [], ◌∷◌, ◌++◌}
 
 -- The first of the n numbers from i on that passes the test.
-unfoldable pub first_from : ℕ → ℕ → (ℕ → Bool) → Found
-first_from i zero test = Nowhere
-first_from i (suc n) test = elim (test i) [ true ↦ At i | false ↦ first_from (suc i) n test ]
+unfoldable pub first_from : ℕ → ℕ → (ℕ → Bool) → Option ℕ
+first_from i zero test = None
+first_from i (suc n) test = elim (test i) [ true ↦ Some i | false ↦ first_from (suc i) n test ]
 
 -- The least number below n that passes the test.
-unfoldable pub first_below : ℕ → (ℕ → Bool) → Found
+unfoldable pub first_below : ℕ → (ℕ → Bool) → Option ℕ
 first_below n test = first_from 0 n test
 
-abbrev pub is_found : Found → Bool
-is_found (At i) = true
-is_found Nowhere = false
+abbrev pub is_found : Option ℕ → Bool
+is_found (Some i) = true
+is_found None = false
 
-abbrev pub found_or : ℕ → Found → ℕ
-found_or d (At i) = i
-found_or d Nowhere = d
+abbrev pub found_or : ℕ → Option ℕ → ℕ
+found_or d (Some i) = i
+found_or d None = d
 
 -- Every number below n passes the test.
 unfoldable pub all_below : ℕ → (ℕ → Bool) → Bool

@@ -1,7 +1,7 @@
 -- The text form: words to read for the bytes of a program, a schedule and a script. A word of this form is called a token here,
 -- since a word is a signed 32-bit integer. Both directions go over tokens by one table, `keywords`. What is legal is judged by
 -- compile, and not here.
-use Rattle.std.specs.Prelude.{ℕ, zero, suc, ◌+◌, ◌-◌, ◌*◌, ◌/◌, ◌%◌, ◌^◌, Bool, true, false, cond, ◌&&◌, ◌||◌, List, [], ◌∷◌, ◌++◌, leb, ltb, eqb, length, get_or, drop}
+use Rattle.std.specs.Prelude.{Option, Some, None, ℕ, zero, suc, ◌+◌, ◌-◌, ◌*◌, ◌/◌, ◌%◌, ◌^◌, Bool, true, false, cond, ◌&&◌, ◌||◌, List, [], ◌∷◌, ◌++◌, leb, ltb, eqb, length, get_or, drop}
 use Prim.Native.Char.{code}
 use Prim.Native.String.{String, len, char_at}
 use Rattle.model.specs.Rules.Decimal.{natural, decimal}
@@ -12,8 +12,6 @@ use Rattle.model.specs.Rules.Width.{within}
 use Rattle.model.specs.Rules.Word.{word_of, byte_at}
 use Rattle.model.specs.declared.Operand.{Operand}
 use Rattle.model.specs.declared.Operand.TheVariants.{One, Two, Four, Signed, Index, Mode}
-use Rattle.model.specs.declared.Found.{Found}
-use Rattle.model.specs.declared.Found.TheVariants.{At, Nowhere}
 
 -- A token that stands for a byte, the operands that follow it, and whether it starts a line where it is listed.
 pub record Keyword : Type 0 where
@@ -113,10 +111,10 @@ same_bytes (x ∷ xs) (y ∷ ys) = eqb x y && same_bytes xs ys
 abbrev pub keyword_at : List Keyword → ℕ → Keyword
 keyword_at ks i = get_or ks i (record { spelling = []; byte = 0; operands = []; opens = false })
 
-unfoldable pub spelled : List ℕ → List Keyword → Found
+unfoldable pub spelled : List ℕ → List Keyword → Option ℕ
 spelled token ks = first_below (length ks) (λ i. same_bytes (keyword_at ks i).spelling token)
 
-unfoldable pub coded : ℕ → List Keyword → Found
+unfoldable pub coded : ℕ → List Keyword → Option ℕ
 coded b ks = first_below (length ks) (λ i. eqb (keyword_at ks i).byte b)
 
 -- How many bytes an operand takes.
@@ -150,9 +148,9 @@ is_signed Mode = false
 abbrev pub number_token : Operand → ℕ → List ℕ
 number_token o v = cond (is_signed o) (decimal (word_of v)) (natural v)
 
-abbrev pub name_or : List Keyword → List ℕ → Found → List ℕ
-name_or ks token (At i) = (keyword_at ks i).spelling
-name_or ks token Nowhere = token
+abbrev pub name_or : List Keyword → List ℕ → Option ℕ → List ℕ
+name_or ks token (Some i) = (keyword_at ks i).spelling
+name_or ks token None = token
 
 unfoldable pub operand_token : Operand → ℕ → List ℕ
 operand_token o v = name_or (names o) (number_token o v) (coded v (names o))
@@ -164,11 +162,11 @@ pub record Listed : Type 0 where
   pub pending : List Operand
   pub opens : Bool
 
-abbrev pub listed_keyword : ℕ → Found → Outcome Listed
-listed_keyword at (At i) =
+abbrev pub listed_keyword : ℕ → Option ℕ → Outcome Listed
+listed_keyword at (Some i) =
     let k = keyword_at keywords i in
     accepted (record { token = k.spelling; width = 1; pending = k.operands; opens = k.opens })
-listed_keyword at Nowhere = refuse unknown_byte at
+listed_keyword at None = refuse unknown_byte at
 
 unfoldable pub listed_at : List ℕ → ℕ → List Operand → Outcome Listed
 listed_at bytes at [] = listed_keyword at (coded (byte_at bytes at) keywords)
@@ -255,19 +253,19 @@ tokens_from at s (b ∷ bs) = finished_by (class_of b) s ++ tokens_from (suc at)
 
 -- ASSEMBLING.
 -- The number that digits say, from the first on after the value v.
-unfoldable pub number_from : ℕ → List ℕ → Found
-number_from v [] = At v
-number_from v (d ∷ ds) = elim (within 48 57 d) [ true ↦ number_from (10 * v + (d - 48)) ds | false ↦ Nowhere ]
+unfoldable pub number_from : ℕ → List ℕ → Option ℕ
+number_from v [] = Some v
+number_from v (d ∷ ds) = elim (within 48 57 d) [ true ↦ number_from (10 * v + (d - 48)) ds | false ↦ None ]
 
 -- A number: at least one digit, and the first is no 0 where more follow.
-unfoldable pub number_of : List ℕ → Found
-number_of [] = Nowhere
-number_of (d ∷ ds) = cond (eqb d 48 && leb 1 (length ds)) Nowhere (number_from 0 (d ∷ ds))
+unfoldable pub number_of : List ℕ → Option ℕ
+number_of [] = None
+number_of (d ∷ ds) = cond (eqb d 48 && leb 1 (length ds)) None (number_from 0 (d ∷ ds))
 
 -- A number from `low` on and below `limit`.
-unfoldable pub ranged : ℕ → ℕ → ℕ → Found → Outcome ℕ
-ranged place low limit (At n) = provided (leb low n && ltb n limit) outside_range place ▷ λ _. accepted n
-ranged place low limit Nowhere = refuse no_number place
+unfoldable pub ranged : ℕ → ℕ → ℕ → Option ℕ → Outcome ℕ
+ranged place low limit (Some n) = provided (leb low n && ltb n limit) outside_range place ▷ λ _. accepted n
+ranged place low limit None = refuse no_number place
 
 -- A word by its bits: '-' and a number up to 2^31, or a number below 2^31.
 abbrev pub signed_of : ℕ → List ℕ → Outcome ℕ
@@ -276,9 +274,9 @@ signed_of place w =
     (ranged place 1 (2 ^ 31 + 1) (number_of (drop 1 w)) ▷ λ n. accepted (2 ^ 32 - n))
     (ranged place 0 (2 ^ 31) (number_of w))
 
-abbrev pub value_or : List Keyword → Outcome ℕ → Found → Outcome ℕ
-value_or ks value (At i) = accepted (keyword_at ks i).byte
-value_or ks value Nowhere = value
+abbrev pub value_or : List Keyword → Outcome ℕ → Option ℕ → Outcome ℕ
+value_or ks value (Some i) = accepted (keyword_at ks i).byte
+value_or ks value None = value
 
 -- The value of an operand's token.
 unfoldable pub operand_of : Operand → Token → Outcome ℕ
@@ -292,10 +290,10 @@ pub record Assembled : Type 0 where
   pub bytes : List ℕ
   pub pending : List Operand
 
-abbrev pub assembled_keyword : ℕ → Found → Outcome Assembled
-assembled_keyword place (At i) =
+abbrev pub assembled_keyword : ℕ → Option ℕ → Outcome Assembled
+assembled_keyword place (Some i) =
     let k = keyword_at keywords i in accepted (record { bytes = k.byte ∷ []; pending = k.operands })
-assembled_keyword place Nowhere = refuse unknown_token place
+assembled_keyword place None = refuse unknown_token place
 
 unfoldable pub assembled_of : List Operand → Token → Outcome Assembled
 assembled_of [] t = assembled_keyword t.place (spelled t.spelling keywords)

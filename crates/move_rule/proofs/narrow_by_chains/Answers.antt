@@ -106,12 +106,3 @@ returns c =
           narrowed-as (l.invariant.2 p s t e)
           (λ x f lt below. (λ h j lj. h j (omega (arith, n)), λ h j lj. h j (omega (arith, n)))),
     )
-
-pub overflow_add-chain : goal.overflow_add-chain
-overflow_add-chain c = let l = (goal.at.overflow_add-chain c).After-leeway_of-leeway in
-    let k = (start l).requires.1 in
-    let t = k.2.joined.known in
-    omega (arith, l.loop-chain-test.true, few-chains t.stands)
-
-pub loop-chain-smaller : goal.loop-chain-smaller
-loop-chain-smaller c = omega (arith, c.loop-chain-test.true)

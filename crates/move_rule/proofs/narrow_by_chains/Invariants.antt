@@ -23,6 +23,3 @@ invariant-loop-chain l =
     ((p : Program) (s : Schedule) → Timed l.text l.reads l.tables l.periods l.phases l.h p s →
     timely p s l.h ≡ accepted tt → Narrowed p (λ x f. (j : ℕ) → j < l.chain → ChainStays p s l.h x f (chain_at p j))
     l.initial.lows l.initial.highs l.lows l.highs)
-
-abbrev pub decreases-loop-chain : goal.decreases-loop-chain
-decreases-loop-chain l = l.tables.chains - l.chain

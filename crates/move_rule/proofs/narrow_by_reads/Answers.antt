@@ -42,11 +42,3 @@ returns c =
           narrowed-as (l.invariant.2 p s e m)
           (λ x f lt below. (λ h r lr. h r (omega (arith, n)), λ h r lr. h r (omega (arith, n)))),
     )
-
-pub overflow_add-reader : goal.overflow_add-reader
-overflow_add-reader c = let b = c in
-    let a = c in
-    omega (arith, b.loop-reader-test.true, a.requires.1.1, a.requires.1.0.reading.tabled.few)
-
-pub loop-reader-smaller : goal.loop-reader-smaller
-loop-reader-smaller c = omega (arith, c.loop-reader-test.true)

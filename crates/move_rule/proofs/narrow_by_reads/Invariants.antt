@@ -20,6 +20,3 @@ invariant-loop-reader l =
     Claim l.text l.reads l.firsts l.periods l.phases l.ranks
     (λ p s. count p ≡ l.signals → Narrowed p (λ x f. (r : ℕ) → r < l.reader → SignalStays p s r x f)
     l.initial.lows l.initial.highs l.lows l.highs)
-
-abbrev pub decreases-loop-reader : goal.decreases-loop-reader
-decreases-loop-reader l = l.signals - l.reader

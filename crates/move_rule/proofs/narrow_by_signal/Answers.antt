@@ -172,9 +172,3 @@ offset_bounds-reads-i c = omega (arith, c.loop-i-test.true, c.from_entry-end.ens
 
 pub bounds-reads-i : goal.bounds-reads-i
 bounds-reads-i c = let b = (goal.at.bounds-reads-i c).In-loop-i in in_table (ix b) (x b) (i b) (lt b) (low b) (high b)
-
-pub overflow_add-i : goal.overflow_add-i
-overflow_add-i c = let b = c in omega (arith, b.loop-i-test.true, b.from_entry-end.ensures.1)
-
-pub loop-i-smaller : goal.loop-i-smaller
-loop-i-smaller c = let b = c in omega (arith, b.loop-i-test.true)

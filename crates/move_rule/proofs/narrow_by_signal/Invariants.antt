@@ -28,6 +28,3 @@ invariant-loop-i l =
     Claim l.text l.reads l.firsts l.periods l.phases l.ranks (λ p s.
     l.reader < count p → Narrowed p (FirstStay p s l.reader (l.i - get_or l.firsts l.reader 0))
     l.initial.lows l.initial.highs l.lows l.highs)
-
-abbrev pub decreases-loop-i : goal.decreases-loop-i
-decreases-loop-i l = l.end - l.i

@@ -46,9 +46,3 @@ offset_bounds-highs-x c = omega (arith, c.loop-x-test.true)
 
 pub bounds-highs-x : goal.bounds-highs-x
 bounds-highs-x c = omega (arith, c.loop-x-test.true)
-
-pub overflow_add-x : goal.overflow_add-x
-overflow_add-x c = omega (arith, c.loop-x-test.true)
-
-pub loop-x-smaller : goal.loop-x-smaller
-loop-x-smaller c = omega (arith, c.loop-x-test.true)

@@ -14,6 +14,3 @@ use Rattle.moves.proofs.all_phases.Given as goal
 abbrev pub invariant-loop-x : goal.invariant-loop-x
 invariant-loop-x l =
     (l.x ≤ 64) × (length l.highs ≡ 64) × ((y : ℕ) → y < l.x → get_or l.highs y 0 ≡ get_or l.periods y 0)
-
-abbrev pub decreases-loop-x : goal.decreases-loop-x
-decreases-loop-x l = 64 - l.x

@@ -13,34 +13,26 @@ use Rattle.moves.specs.Listing.{Spare, FitsAt}
 use Rattle.moves.proofs.fits.Goals as goal
 use Rattle.moves.proofs.fits.Goals.{After-has_room}
 
-pub returns-then-not-capped : goal.returns-then-not-capped
-returns-then-not-capped c =
+pub returns-in_default : goal.returns-in_default
+returns-in_default c =
     let a = c.args in
-    let free : a.capped ≡ false = c.if-not-capped.true in
-    (λ e. inr (λ k lt d. ap (λ b. is_over (cap_of b a.limit) (get_or a.loads.now k 0 + a.weight)) free), λ h. refl)
+    (λ e. inr (λ k lt d. ap (λ b. is_over (cap_of b) (get_or a.loads.now k 0 + a.weight)) c.in_default.is), λ h. refl)
 
 pub returns-then-phase-from_byte : goal.returns-then-phase-from_byte
 returns-then-phase-from_byte c = (λ e. inl (c.if-phase-from_byte.true ∙ c.from_byte.ensures.0), λ h. refl)
 
 pub returns : goal.returns
 returns c =
-    let e = c in
-    let w = c in
-    let a = w.args in
-    let capped : a.capped ≡ true = w.if-not-capped.false in
+    let a = c.args in
     let rate : Rate = record { period = a.period; phase = a.phase } in (
-      λ t. inr (subst (λ b. Spare a.loads.now b a.limit rate a.weight a.h) (sym capped) (c.has_room.ensures.0
-          t)),
+      λ t. inr (subst (λ b. Spare a.loads.now b rate a.weight a.h) (sym c.in-Some.is) (c.has_room.ensures.0 t)),
       λ h. room (goal.at.returns c).After-has_room h,
     )
   where
-    room : (c : After-has_room) →
-        let a = c.args in
-        FitsAt a.loads.now a.capped a.limit a.period a.weight a.present a.h a.phase →
-        c.has_room.result ≡ true
+    room : (c : After-has_room) → let a = c.args in
+        FitsAt a.loads.now a.cap a.period a.weight a.present a.h a.phase → c.has_room.result ≡ true
     room c (inl q) = absurd (c.if-phase-from_byte.false (q ∙ sym c.from_byte.ensures.0))
     room c (inr h) =
         let a = c.args in
-        let capped : a.capped ≡ true = c.if-not-capped.false in
         let rate : Rate = record { period = a.period; phase = a.phase } in
-        c.has_room.ensures.1 (subst (λ b. Spare a.loads.now b a.limit rate a.weight a.h) capped h)
+        c.has_room.ensures.1 (subst (λ b. Spare a.loads.now b rate a.weight a.h) c.in-Some.is h)

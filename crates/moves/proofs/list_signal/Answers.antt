@@ -63,11 +63,5 @@ returns c =
           tells),
     )
 
-pub overflow_add-phase : goal.overflow_add-phase
-overflow_add-phase c = let b = c in omega (arith, b.loop-phase-test.true)
-
-pub loop-phase-smaller : goal.loop-phase-smaller
-loop-phase-smaller c = let b = c in omega (arith, b.loop-phase-test.true)
-
 pub shape_of-list : goal.shape_of-list
 shape_of-list c = search (rules, c.loop-phase.invariant.3)

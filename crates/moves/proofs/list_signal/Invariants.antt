@@ -24,8 +24,5 @@ abbrev pub invariant-loop-phase : goal.invariant-loop-phase
 invariant-loop-phase l =
     (l.low ≤ l.phase) × (l.phase - l.low ≤ 256) × (l.entries ≤ l.count + (l.phase - l.low)) ×
     (length l.list ≡ length l.initial.list) ×
-    Upto (FitsAt l.loads l.capped l.limit l.period l.weight l.present l.h) l.x l.period l.low l.high l.phase
+    Upto (FitsAt l.loads l.cap l.period l.weight l.present l.h) l.x l.period l.low l.high l.phase
     l.initial.list l.list l.count l.entries
-
-abbrev pub decreases-loop-phase : goal.decreases-loop-phase
-decreases-loop-phase l = l.high - l.phase

@@ -76,11 +76,5 @@ bounds-weights-x c = omega (arith, small (goal.at.bounds-weights-x c).In-loop-x)
 pub bounds-phases-x : goal.bounds-phases-x
 bounds-phases-x c = omega (arith, small (goal.at.bounds-phases-x c).In-loop-x)
 
-pub overflow_add-x : goal.overflow_add-x
-overflow_add-x c = let b = (goal.at.overflow_add-x c).In-loop-x in omega (arith, small b)
-
-pub loop-x-smaller : goal.loop-x-smaller
-loop-x-smaller c = let b = c in omega (arith, b.loop-x-test.true)
-
 pub shape_of-list : goal.shape_of-list
 shape_of-list c = search (rules, c.loop-x.invariant.2)

@@ -13,8 +13,5 @@ use Rattle.moves.proofs.list_signals.Given as goal
 abbrev pub invariant-loop-x : goal.invariant-loop-x
 invariant-loop-x l =
     (l.x ≤ l.signals) × (l.entries ≤ l.x * 256) × (length l.list ≡ length l.initial.list) ×
-    ((g : ℕ → ℕ → Bool) → TellsMoves g l.signals l.lows l.highs l.loads l.capped l.limit l.periods l.weights l.phases l.h →
+    ((g : ℕ → ℕ → Bool) → TellsMoves g l.signals l.lows l.highs l.loads l.cap l.periods l.weights l.phases l.h →
     Written (join_below l.x (λ y. passing y (get_or l.periods y 0) (g y))) l.initial.list l.list l.entries)
-
-abbrev pub decreases-loop-x : goal.decreases-loop-x
-decreases-loop-x l = l.signals - l.x

@@ -1,4 +1,5 @@
 -- `read_rule::is_met` meets its contract. Assumes nothing.
+use Rattle.std.specs.Prelude.{ℕ, Option}
 use Prim.Native.Nat.{◌+◌, ◌-◌}
 use mathlib.Core.Bool.{beq}
 use mathlib.Core.Path.{◌≡◌, sym, ap, ◌∙◌}
@@ -8,7 +9,6 @@ use borrow.Author.Tests.{eq-eqb, ne_eqb}
 use lib.Dec.{eqb}
 use Rattle.model.specs.Rules.Reads.{line_holds, share, ordered}
 use Rattle.model.specs.Rules.Search.{is_found}
-use Rattle.model.specs.declared.Found.{Found}
 use Rattle.read_rule.specs.Lines.{number_at, Paced}
 use Rattle.read_rule.specs.Reads.{rate_in, index_by, met_by}
 use Rattle.read_rule.specs.declared.Line.{Line}
@@ -28,7 +28,7 @@ found-index c =
     rw l.ensures.is
     (found-is a.w a.r l.ensures.read_byte l.ensures.reader-byte a.kind a.sampled.factor a.sampled.index)
 
-line-found : (c : After-settle-found) (f : Found) → c.settle-found.result ≡ f →
+line-found : (c : After-settle-found) (f : Option ℕ) → c.settle-found.result ≡ f →
     let a = c.args in
     line_holds a.kind (rate_in a.w) (rate_in a.r) a.sampled.factor a.sampled.index ≡ is_found f
 line-found c f e =
@@ -47,11 +47,11 @@ shared c q =
     let s = c in
     let l = s.line_of-line in
     let a = s.args in
-    let i = c.in-At.i in
+    let i = c.in-Some.i in
     ap (λ x. eqb x (l.result.cycle + l.result.ahead)) c.number_at-number.ensures ∙
     ap (λ (k : Line). eqb (number_at k i) (k.cycle + k.ahead)) l.ensures.is ∙
     share-is a.w a.r q.read_below q.reader-below a.kind a.sampled.factor i q.positive q.rule
-    (index-line a.kind (rate_in a.w) (rate_in a.r) a.sampled.factor i a.sampled.index (sym (found-index s.before.before) ∙ c.in-At.is))
+    (index-line a.kind (rate_in a.w) (rate_in a.r) a.sampled.factor i a.sampled.index (sym (found-index s.before.before) ∙ c.in-Some.is))
 
 pub returns-in_default : goal.returns-in_default
 unfolding met_by
@@ -65,7 +65,7 @@ number_at-number-requires c =
       omega (
         arith,
         n.ensures.few,
-        search-below _ n.result.from n.result.to _ (sym t.settle-found.ensures ∙ c.in-At.is),
+        search-below _ n.result.from n.result.to _ (sym t.settle-found.ensures ∙ c.in-Some.is),
       ),
     )
 
@@ -74,7 +74,7 @@ unfolding met_by ordered
 returns-then-number-line c = λ q.
     let n = c in
     let f = n in
-    rw (line-found f.before.before.before.before.before _ f.in-At.is, sym (shared n.before.before.before q) ∙ eq-eqb _ _ c.if-number-line.true)
+    rw (line-found f.before.before.before.before.before _ f.in-Some.is, sym (shared n.before.before.before q) ∙ eq-eqb _ _ c.if-number-line.true)
     (ap (beq f.args.before) c.wants_first.ensures)
 
 pub returns : goal.returns
@@ -82,4 +82,4 @@ unfolding met_by ordered
 returns c = λ q.
     let n = c in
     let f = n in
-    rw (line-found f.before.before.before.before _ f.in-At.is, sym (shared n.before.before q) ∙ ne_eqb _ _ c.if-number-line.false)
+    rw (line-found f.before.before.before.before _ f.in-Some.is, sym (shared n.before.before q) ∙ ne_eqb _ _ c.if-number-line.false)

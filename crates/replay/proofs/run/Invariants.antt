@@ -1,8 +1,6 @@
-use Rattle.std.proofs.Common.{length, ◌≡◌}
+use Rattle.std.proofs.Common.{◌≤◌}
 use Rattle.replay.proofs.run.Given as goal
 
-abbrev pub invariant-loop-turns : goal.invariant-loop-turns
-invariant-loop-turns l = (length l.image ≡ length l.initial.image) × (length l.state ≡ length l.initial.state)
-
-abbrev pub decreases-loop-turns : goal.decreases-loop-turns
-decreases-loop-turns l = l.turns
+-- what is lent fits: first the bytes of the image, then the words of the state
+abbrev pub invariant-loop : goal.invariant-loop
+invariant-loop l = (l.lent.0 ≤ 26000) × (l.lent.1.0 ≤ 400)

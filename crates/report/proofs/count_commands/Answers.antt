@@ -51,12 +51,6 @@ add_runs-requires c =
       (λ d lt. omega (arith, l.loop-i.invariant.2 d lt, s.requires.0.few)),
     )
 
-pub overflow_add-i : goal.overflow_add-i
-overflow_add-i c =
-    let c5 = c in
-    let c10 = c in
-    omega (arith, c10.requires.0.few)
-
 pub loop-i-preserved : goal.loop-i-preserved
 loop-i-preserved c =
     let w = c in

@@ -18,6 +18,3 @@ invariant-loop-i l =
     ((c : ℕ) → c < l.h → get_or l.counts c 0 + work_left l.periods l.order l.phases l.commands l.n c l.i ≡ work_of l.commands
     (list_by l.periods l.order l.phases l.n c)) ×
     ((c : ℕ) → l.h ≤ c → c < 240 → get_or l.counts c 0 ≡ 0)
-
-abbrev pub decreases-loop-i : goal.decreases-loop-i
-decreases-loop-i l = l.n - l.i

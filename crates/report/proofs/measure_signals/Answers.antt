@@ -50,9 +50,6 @@ offset_bounds-commands-x c = omega (arith, c.requires.0.few)
 pub bounds-commands-x : goal.bounds-commands-x
 bounds-commands-x c = omega (arith, c.requires.0.few)
 
-pub overflow_add-x : goal.overflow_add-x
-overflow_add-x c = omega (arith, c.requires.0.few)
-
 pub loop-x-preserved : goal.loop-x-preserved
 loop-x-preserved c =
     let c5 = c in
@@ -67,7 +64,7 @@ loop-x-preserved c =
     let spelled = d.spelled l.x (omega arith) in (
       omega arith,
       length-set l.commands l.x _ ∙ l.invariant.1,
-      omega (arith, l.invariant.2, c.greater-height.ensures, w.height σ here spelled, highest-next g l.x (omega (arith, d.count-is))),
+      omega (arith, l.invariant.2, c.max-height.ensures, w.height σ here spelled, highest-next g l.x (omega (arith, d.count-is))),
       filled _ l.commands l.x _ (omega (arith, l.invariant.1, d.few)) (w.commands σ here spelled) l.invariant.3,
     )
 

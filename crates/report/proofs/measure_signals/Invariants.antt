@@ -15,6 +15,3 @@ abbrev pub invariant-loop-x : goal.invariant-loop-x
 invariant-loop-x l =
     (l.x ≤ l.n) × (length l.commands ≡ 64) × (max l.height (highest (drop l.x (declared_by l.text))) ≡ highest (declared_by l.text)) ×
     ((y : ℕ) → y < l.x → get_or l.commands y 0 ≡ body_commands (get_or (declared_by l.text) y no_signal).body)
-
-abbrev pub decreases-loop-x : goal.decreases-loop-x
-decreases-loop-x l = l.n - l.x

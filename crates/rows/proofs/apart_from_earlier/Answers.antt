@@ -25,12 +25,6 @@ returns-then-not-are_apart c =
     sym (all-fails s.args.n (test s.args.text.now s.args.offsets.now s.args.n) l.loop-m.m
     (omega (arith, c.loop-m-test.true)) (sym c.are_apart.ensures ∙ c.if-not-are_apart.true))
 
-pub overflow_add-m : goal.overflow_add-m
-overflow_add-m c = omega (arith, c.loop-m-test.true)
-
-pub loop-m-smaller : goal.loop-m-smaller
-loop-m-smaller c = omega (arith, c.loop-m-test.true)
-
 pub loop-m-preserved : goal.loop-m-preserved
 loop-m-preserved c =
     let l = c in

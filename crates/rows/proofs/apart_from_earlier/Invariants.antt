@@ -16,6 +16,3 @@ test text offsets n m = apart (text_row text offsets m) (text_row text offsets n
 
 abbrev pub invariant-loop-m : goal.invariant-loop-m
 invariant-loop-m l = (l.m ≤ l.n) × (all_below l.m (test l.text l.offsets l.n) ≡ true)
-
-abbrev pub decreases-loop-m : goal.decreases-loop-m
-decreases-loop-m l = l.n - l.m

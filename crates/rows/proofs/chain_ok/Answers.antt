@@ -93,12 +93,6 @@ returns-then-high-low c =
 pub after-edge-requires : goal.after-edge-requires
 after-edge-requires c = search rules
 
-pub overflow_add-i : goal.overflow_add-i
-overflow_add-i c = omega (arith, c.loop-i-test.true)
-
-pub loop-i-smaller : goal.loop-i-smaller
-loop-i-smaller c = omega (arith, c.loop-i-test.true)
-
 pub loop-i-preserved : goal.loop-i-preserved
 loop-i-preserved c =
     let p = goal.at.loop-i-preserved c in

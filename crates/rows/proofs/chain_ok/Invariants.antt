@@ -26,6 +26,3 @@ abbrev pub invariant-loop-i : goal.invariant-loop-i
 invariant-loop-i l =
     (l.i ≤ l.count) × (all_below l.i (follows (rows_from l.image l.start l.count)) ≡ true) ×
     (l.edge ≡ edge (rows_from l.image l.start l.count) l.i)
-
-abbrev pub decreases-loop-i : goal.decreases-loop-i
-decreases-loop-i l = l.count - l.i

@@ -28,6 +28,3 @@ abbrev pub invariant-loop-i : goal.invariant-loop-i
 invariant-loop-i l =
     (l.i ≤ l.count) × (l.out ≡ sets l.initial.out (l.to + 1) (rows_bytes 0 (take l.i (in_order l.text l.offsets l.count)))) ×
     (l.edge ≡ edge (in_order l.text l.offsets l.count) l.i)
-
-abbrev pub decreases-loop-i : goal.decreases-loop-i
-decreases-loop-i l = l.count - l.i

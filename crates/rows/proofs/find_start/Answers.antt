@@ -1,4 +1,5 @@
 -- `rows::find_start` meets its contract. Assumes nothing.
+use Rattle.std.specs.Prelude.{Some, None}
 use mathlib.Core.Path.{◌≡◌, sym, ap, ◌∙◌}
 use mathlib.Core.Bool.{Bool, true, false}
 use mathlib.Core.List.{List}
@@ -12,7 +13,6 @@ use mir.Facts.{to_z-of_z}
 use mir.Syntax.{w64}
 use mir.Val.{to_z, of_z}
 use Rattle.model.specs.Rules.Word.{eq_z}
-use Rattle.model.specs.declared.Found.TheVariants.{At, Nowhere}
 use Rattle.model.proofs.Pairs.Decide.{first-below}
 use Rattle.model.specs.Rules.Cover.{starting_at}
 use Rattle.model.specs.Rules.Table.{Row, row_at}
@@ -29,18 +29,18 @@ module _ (text offsets : List ℕ) (count : ℕ) (z : ℤ) where
   same n l = ap (λ (r : Row). eq_z r.low z) (text_at text offsets count n l)
 
   hit : (n : ℕ) → n < count → ((k : ℕ) → k < n → test text offsets z k ≡ false) → test text offsets z n ≡ true →
-      starting_at (text_rows text offsets count) z ≡ At n
+      starting_at (text_rows text offsets count) z ≡ Some n
   unfolding starting_at
   hit n l h e =
       let len = text-length text offsets count in
-      first-below (length (text_rows text offsets count)) (λ n. eq_z (row_at (text_rows text offsets count) n).low z) (At n)
+      first-below (length (text_rows text offsets count)) (λ n. eq_z (row_at (text_rows text offsets count) n).low z) (Some n)
       (omega arith, omega arith, same n l ∙ e, λ m a b. same m (omega arith) ∙ h m b)
 
-  miss : ((k : ℕ) → k < count → test text offsets z k ≡ false) → starting_at (text_rows text offsets count) z ≡ Nowhere
+  miss : ((k : ℕ) → k < count → test text offsets z k ≡ false) → starting_at (text_rows text offsets count) z ≡ None
   unfolding starting_at
   miss h =
       let len = text-length text offsets count in
-      first-below (length (text_rows text offsets count)) (λ n. eq_z (row_at (text_rows text offsets count) n).low z) Nowhere
+      first-below (length (text_rows text offsets count)) (λ n. eq_z (row_at (text_rows text offsets count) n).low z) None
       (λ m a b. let l : m < count = omega arith in same m l ∙ h m l)
 
 -- `long(low)` is the row's low
@@ -68,12 +68,6 @@ returns-then-long-edge c =
     (omega (arith, c.loop-n-test.true)) (none (goal.at.returns-then-long-edge c).At-loop-n)
     (true-eq_z _ _ (sym (low-is (goal.at.returns-then-long-edge c).After-long)
     ∙ same-long (sfits_of {w = w64} c.long.type_inv) c.ranges.edge c.if-long-edge.true)))
-
-pub overflow_add-n : goal.overflow_add-n
-overflow_add-n c = omega (arith, c.loop-n-test.true)
-
-pub loop-n-smaller : goal.loop-n-smaller
-loop-n-smaller c = omega (arith, c.loop-n-test.true)
 
 pub loop-n-preserved : goal.loop-n-preserved
 loop-n-preserved c = (

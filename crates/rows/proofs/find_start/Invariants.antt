@@ -1,4 +1,5 @@
 -- `rows::find_start` meets its contract. Assumes nothing.
+use Rattle.std.specs.Prelude.{Some, None}
 use mathlib.Core.Path.{◌≡◌, sym, ap, ◌∙◌}
 use mathlib.Core.Bool.{Bool, true, false}
 use mathlib.Core.List.{List}
@@ -12,7 +13,6 @@ use mir.Facts.{to_z-of_z}
 use mir.Syntax.{w64}
 use mir.Val.{to_z, of_z}
 use Rattle.model.specs.Rules.Word.{eq_z}
-use Rattle.model.specs.declared.Found.TheVariants.{At, Nowhere}
 use Rattle.model.proofs.Pairs.Decide.{first-below}
 use Rattle.model.specs.Rules.Cover.{starting_at}
 use Rattle.model.specs.Rules.Table.{Row, row_at}
@@ -27,6 +27,3 @@ test text offsets z n = eq_z (text_row text offsets n).low z
 
 abbrev pub invariant-loop-n : goal.invariant-loop-n
 invariant-loop-n l = (l.n ≤ l.count) × ((k : ℕ) → k < l.n → test l.text l.offsets l.edge k ≡ false)
-
-abbrev pub decreases-loop-n : goal.decreases-loop-n
-decreases-loop-n l = l.count - l.n

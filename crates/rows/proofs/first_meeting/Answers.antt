@@ -1,4 +1,5 @@
 -- `rows::first_meeting` meets its contract. Assumes nothing.
+use Rattle.std.specs.Prelude.{Some, None}
 use mathlib.Core.Path.{◌≡◌, sym, ap, ap₂, ◌∙◌}
 use mathlib.Core.Bool.{Bool, false, not}
 use mathlib.Core.List.{List}
@@ -6,7 +7,6 @@ use Prim.Native.Nat.{ℕ, ◌-◌, ◌≤◌, ◌<◌}
 use native.Mathlib.Omega.{arith}
 use borrow.Author.Count.{below_more}
 use Rattle.model.specs.Rules.Search.{all_below}
-use Rattle.model.specs.declared.Found.TheVariants.{At, Nowhere}
 use Rattle.model.proofs.Pairs.Decide.{first-below}
 use Rattle.model.specs.Rules.Cover.{apart, meets_earlier}
 use Rattle.model.specs.Rules.Table.{row_at}
@@ -41,19 +41,13 @@ returns-then-not-apart_from_earlier c =
     let s = c in
     let t = a.loop-n-test.true in
     let b : l.loop-n.n < s.args.count = omega arith in
-    sym (first-below s.args.count (test s.args.text.now s.args.offsets.now s.args.count) (At l.loop-n.n) (
+    sym (first-below s.args.count (test s.args.text.now s.args.offsets.now s.args.count) (Some l.loop-n.n) (
       omega arith,
       omega arith,
       meets s.args.text.now s.args.offsets.now s.args.count l.loop-n.n b
           a.apart_from_earlier.result a.apart_from_earlier.ensures ∙ ap not c.if-not-apart_from_earlier.true,
       λ m x y. l.loop-n.invariant.1 m y,
     ))
-
-pub overflow_add-n : goal.overflow_add-n
-overflow_add-n c = omega (arith, c.loop-n-test.true)
-
-pub loop-n-smaller : goal.loop-n-smaller
-loop-n-smaller c = omega (arith, c.loop-n-test.true)
 
 pub loop-n-preserved : goal.loop-n-preserved
 loop-n-preserved c =
@@ -73,5 +67,5 @@ returns c =
     let l = c in
     let s = c in
     let t = c.loop-n-test.false in
-    sym (first-below s.args.count (test s.args.text.now s.args.offsets.now s.args.count) Nowhere
+    sym (first-below s.args.count (test s.args.text.now s.args.offsets.now s.args.count) None
     (λ m x y. l.loop-n.invariant.1 m (omega arith)))

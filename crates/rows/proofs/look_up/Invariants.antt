@@ -32,6 +32,3 @@ pub record Passed (area : List ℕ) (w : ℤ) (below i : ℕ) : Type 0 where
 
 abbrev pub invariant-loop-i : goal.invariant-loop-i
 invariant-loop-i l = (l.i ≤ l.count) × Passed l.area l.w l.below l.i
-
-abbrev pub decreases-loop-i : goal.decreases-loop-i
-decreases-loop-i l = l.count - l.i

@@ -72,12 +72,6 @@ returns-then-not-continued c =
     sym (open-end (rows (goal.at.returns-then-not-continued s).Start) (first (goal.at.returns-then-not-continued l).Else-not-starts) l.loop-n.n (omega arith)
     (continued-is (goal.at.returns-then-not-continued j).After-continued ∙ c.if-not-continued.true))
 
-pub overflow_add-n : goal.overflow_add-n
-overflow_add-n c = omega (arith, c.loop-n-test.true)
-
-pub loop-n-smaller : goal.loop-n-smaller
-loop-n-smaller c = omega (arith, c.loop-n-test.true)
-
 pub loop-n-preserved : goal.loop-n-preserved
 loop-n-preserved c =
     let j = c in

@@ -19,6 +19,3 @@ test rows n = continues rows (row_at rows n).high
 
 abbrev pub invariant-loop-n : goal.invariant-loop-n
 invariant-loop-n l = (l.n ≤ l.count) × (all_below l.n (test (text_rows l.text l.offsets l.count)) ≡ true)
-
-abbrev pub decreases-loop-n : goal.decreases-loop-n
-decreases-loop-n l = l.count - l.n

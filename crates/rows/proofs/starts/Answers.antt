@@ -16,16 +16,16 @@ enum_known-found c = search rules
 pub enum_told-1 : goal.enum_told-1
 enum_told-1 c = search rules
 
-pub returns-in-At : goal.returns-in-At
-returns-in-At c =
+pub returns-in-Some : goal.returns-in-Some
+returns-in-Some c =
     let f = c in
     let s = c in
-    ap is_found (sym c.in-At.is ∙ f.find_start-found.ensures ∙ ap
+    ap is_found (sym c.in-Some.is ∙ f.find_start-found.ensures ∙ ap
     (starting_at (text_rows s.args.text.now s.args.offsets.now s.args.count)) (to_z-of_z s.ranges.edge))
 
-pub returns-in-Nowhere : goal.returns-in-Nowhere
-returns-in-Nowhere c =
+pub returns-in-None : goal.returns-in-None
+returns-in-None c =
     let f = c in
     let s = c in
-    ap is_found (sym c.in-Nowhere.is ∙ f.find_start-found.ensures ∙ ap
+    ap is_found (sym c.in-None.is ∙ f.find_start-found.ensures ∙ ap
     (starting_at (text_rows s.args.text.now s.args.offsets.now s.args.count)) (to_z-of_z s.ranges.edge))

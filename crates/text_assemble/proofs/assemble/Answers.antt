@@ -10,4 +10,4 @@ unfolding assemble_of
 returns-then-text-gt16777216 c =
     let s = c.args in
     let g = answered-long s.text.now (assembly s.text.now) s.bytes.now c.if-text-gt16777216.true in
-    (ap yielded_of c.refuse_number.ensures ∙ g.0, g.1)
+    (ap yielded_of c.refuse.ensures ∙ g.0, g.1)

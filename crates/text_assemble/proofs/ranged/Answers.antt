@@ -7,21 +7,19 @@ use Rattle.text_assemble.proofs.ranged.Goals as goal
 pub returns-then-n-low : goal.returns-then-n-low
 returns-then-n-low c =
     let a = c.args in
-    rw c.in-At.is (ap yielded_of c.refuse_number.ensures ∙ ranged-low a.place a.low a.limit _
-    c.if-n-low.true)
+    rw c.in-Some.is (ap yielded_of c.refuse-then-n-low.ensures ∙ ranged-low a.place a.low a.limit _ c.if-n-low.true)
 
 pub returns-then-limit-n : goal.returns-then-limit-n
 returns-then-limit-n c =
     let a = c.args in
-    rw c.in-At.is (ap yielded_of c.refuse_number-then-limit-n.ensures ∙ ranged-high a.place a.low a.limit _
-    c.if-limit-n.true)
+    rw c.in-Some.is (ap yielded_of c.refuse-then-limit-n.ensures ∙ ranged-high a.place a.low a.limit _ c.if-limit-n.true)
 
-pub returns-else-limit-n : goal.returns-else-limit-n
-returns-else-limit-n c =
+pub returns : goal.returns
+returns c =
     let a = c.args in
-    rw c.in-At.is (ranged-in a.place a.low a.limit _ c.if-n-low.false c.if-limit-n.false)
+    rw c.in-Some.is (ranged-in a.place a.low a.limit _ c.if-n-low.false c.if-limit-n.false)
 
-pub returns-in-Nowhere : goal.returns-in-Nowhere
-returns-in-Nowhere c =
+pub returns-in_default : goal.returns-in_default
+returns-in_default c =
     let a = c.args in
-    rw c.in-Nowhere.is (ap yielded_of c.refuse_number-in-Nowhere.ensures ∙ ranged-none a.place a.low a.limit)
+    rw c.in_default.is (ap yielded_of c.refuse.ensures ∙ ranged-none a.place a.low a.limit)

@@ -1,6 +1,6 @@
 -- `text_assemble::read_token` meets its contract. Assumes nothing.
-use Prim.Native.Nat.{ℕ, ◌+◌, ◌<◌}
-use mathlib.Core.List.{List, ◌∷◌}
+use Prim.Native.Nat.{◌+◌, ◌<◌}
+use mathlib.Core.List.{◌∷◌}
 use mathlib.Core.Path.{◌≡◌, sym, ap, ◌∙◌}
 use native.Mathlib.Omega.{arith}
 use Rattle.model.specs.Rules.Word.{byte_at}
@@ -10,16 +10,14 @@ use Rattle.text_assemble.proofs.read_token.Goals as goal
 use Rattle.text_assemble.proofs.read_token.Goals.{After-cell-number, Else-number-eq0}
 
 -- the number of the next operand
-number : (e : After-cell-number) → let s = e in e.cell-number.result ≡ byte_at cells s.args.pending
-number e =
-    let s = e in e.cell-number.ensures ∙ ap (λ (t : List ℕ). byte_at t s.args.pending) s.requires
+number : (c : After-cell-number) → c.cell-number.result ≡ byte_at cells c.args.pending
+number c = cc
 
-more : (e : Else-number-eq0) → let s = e in
-    (s.args.pending < all_cells) ×
-    (pending_at s.args.pending ≡ operand_by (byte_at cells s.args.pending) ∷ pending_at (s.args.pending + 1))
-more e =
-    let s = e in
-    pending-more s.args.pending (λ q. e.if-number-eq0.false (number (goal.at.Else-number-eq0 e).After-cell-number ∙ q))
+more : (c : Else-number-eq0) →
+    (c.args.pending < all_cells) ×
+    (pending_at c.args.pending ≡ operand_by (byte_at cells c.args.pending) ∷ pending_at (c.args.pending + 1))
+more c =
+    pending-more c.args.pending (λ q. c.if-number-eq0.false (number (goal.at.Else-number-eq0 c).After-cell-number ∙ q))
 
 pub returns-then-number-eq0 : goal.returns-then-number-eq0
 returns-then-number-eq0 c =
@@ -28,11 +26,10 @@ returns-then-number-eq0 c =
 
 pub returns : goal.returns
 returns c =
-    let o = c in
     let e = (goal.at.returns c).Else-number-eq0 in
-    let operand : o.operand_by-operand.result ≡ operand_by (byte_at cells c.args.pending) =
-    o.operand_by-operand.ensures ∙ ap operand_by (number (goal.at.Else-number-eq0 e).After-cell-number) in
+    let operand : c.operand_by-operand.result ≡ operand_by (byte_at cells c.args.pending) =
+    c.operand_by-operand.ensures ∙ ap operand_by (number (goal.at.Else-number-eq0 e).After-cell-number) in
     rw ((more e).1, ← operand) c.read_operand.ensures
 
-pub overflow_add-next : goal.overflow_add-next
-overflow_add-next c = omega (arith, (more (goal.at.overflow_add-next c).Else-number-eq0).0)
+pub overflow_add-pending : goal.overflow_add-pending
+overflow_add-pending c = omega (arith, (more (goal.at.overflow_add-pending c).Else-number-eq0).0)

@@ -12,14 +12,14 @@ pub returns-then-text-at : goal.returns-then-text-at
 unfolding command_at declaration_at
 returns-then-text-at c = rw (get_or-eq_default {A = ℕ} _ 0 c.if-text-at.true, le-ltb _ _ c.if-text-at.true)
 
-pub returns-in-Bytes : goal.returns-in-Bytes
+pub returns-in-Some : goal.returns-in-Some
 unfolding command_at
-returns-in-Bytes c =
-    let w = sym c.expression-width.ensures ∙ c.in-Bytes.is in
+returns-in-Some c =
+    let w = sym c.expression-width.ensures ∙ c.in-Some.is in
     rw (w, ← (c.operator_from.ensures ∙ from_one _ _)) c.operator_piece.ensures
 
-pub returns-in-Unlisted : goal.returns-in-Unlisted
+pub returns-in-None : goal.returns-in-None
 unfolding command_at
-returns-in-Unlisted c =
-    let w = sym c.expression-width.ensures ∙ c.in-Unlisted.is in
+returns-in-None c =
+    let w = sym c.expression-width.ensures ∙ c.in-None.is in
     rw (w, ← c.declaration_at-declaration.ensures, c.declaration_width.ensures)

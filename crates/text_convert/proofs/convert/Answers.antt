@@ -6,4 +6,4 @@ use Rattle.text_convert.proofs.convert.Goals as goal
 
 pub returns-then-program-gt8192 : goal.returns-then-program-gt8192
 returns-then-program-gt8192 c = let g = convert-long _ _ c.if-program-gt8192.true in
-    (ap yielded_of c.refuse_number.ensures ∙ g.0, g.1)
+    (ap yielded_of c.refuse.ensures ∙ g.0, g.1)

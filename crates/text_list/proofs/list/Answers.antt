@@ -10,4 +10,4 @@ unfolding listing_of
 returns-then-bytes-gt16777216 c =
     let s = c.args in
     let g = answered-long s.bytes.now (listing s.bytes.now) s.text.now c.if-bytes-gt16777216.true in
-    (ap yielded_of c.refuse_number.ensures ∙ g.0, g.1)
+    (ap yielded_of c.refuse.ensures ∙ g.0, g.1)

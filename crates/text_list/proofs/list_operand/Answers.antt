@@ -33,7 +33,7 @@ module _ (v : After-value_at-value) where
   value = low_at (size s.args.operand) s.args.bytes.now s.args.at
 
   whole : s.args.at + size s.args.operand ≤ length s.args.bytes.now
-  whole = omega (arith, v.if-bytes-at.false, v.size-width.ensures, s.requires.1)
+  whole = omega (arith, v.if-bytes-at.false, v.size-width.ensures, s.requires.0)
 
   listed : listed_at s.args.bytes.now s.args.at (s.args.operand ∷ pending_at s.args.next) ≡
       accepted (operand_put s.args.operand (pending_at s.args.next) value)
@@ -41,7 +41,7 @@ module _ (v : After-value_at-value) where
 
   fits : s.args.to + length (put_of s.args.at (operand_put s.args.operand (pending_at s.args.next) value)) ≤
       length s.args.out.now
-  fits = room-is listed s.args.at s.args.to s.args.out.now s.requires.2
+  fits = room-is listed s.args.at s.args.to s.args.out.now s.requires.1
 
   is-value : v.value_at-value.result ≡ value
   is-value =
@@ -52,8 +52,8 @@ pub returns-then-bytes-at : goal.returns-then-bytes-at
 returns-then-bytes-at c =
     puts-refused
     (operand-cut c.args.bytes.now c.args.at c.args.operand (pending_at c.args.next)
-    (omega (arith, c.if-bytes-at.true, c.size-width.ensures, c.requires.1))) c.args.at c.args.to c.args.out.now
-    c.refuse_put.result c.refuse_put.ensures
+    (omega (arith, c.if-bytes-at.true, c.size-width.ensures, c.requires.0))) c.args.at c.args.to c.args.out.now
+    c.refuse.result c.refuse.ensures
 
 pub put_lead-start-requires : goal.put_lead-start-requires
 put_lead-start-requires c =
@@ -63,18 +63,15 @@ put_lead-start-requires c =
 
 pub put_operand-end-requires : goal.put_operand-end-requires
 put_operand-end-requires c =
-    let v = (goal.at.put_operand-end-requires c).After-value_at-value in (
-      (s v).requires.0,
-      rw (is-value v) (token-room (lead (s v).args.at false) (operand_token (s v).args.operand (value v)) (s v).args.to
-          (s v).args.out.now (fits v) c.put_lead-start.ensures),
-    )
+    let v = (goal.at.put_operand-end-requires c).After-value_at-value in
+    rw (is-value v) (token-room (lead (s v).args.at false) (operand_token (s v).args.operand (value v)) (s v).args.to
+    (s v).args.out.now (fits v) c.put_lead-start.ensures)
 
 pub returns : goal.returns
 returns c =
     let v = (goal.at.returns c).After-value_at-value in
     puts-is (listed v)
     (record {
-      fine = refl;
       wrote = after c.put_lead-start.ensures (rw (is-value v) at c.put_operand-end.ensures);
       width = v.size-width.ensures;
       pending = refl;
@@ -83,5 +80,5 @@ returns c =
 pub value_at-value-requires : goal.value_at-value-requires
 value_at-value-requires c = (
   omega (arith, c.size-width.ensures, size_small c.args.operand),
-  omega (arith, c.if-bytes-at.false, c.requires.1),
+  omega (arith, c.if-bytes-at.false, c.requires.0),
 )

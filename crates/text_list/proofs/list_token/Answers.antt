@@ -1,6 +1,6 @@
 -- `text_list::list_token` meets its contract. Assumes nothing.
-use Prim.Native.Nat.{ℕ, ◌+◌, ◌<◌}
-use mathlib.Core.List.{List, [], ◌∷◌}
+use Prim.Native.Nat.{◌+◌, ◌<◌}
+use mathlib.Core.List.{[], ◌∷◌}
 use mathlib.Core.Path.{◌≡◌, sym, ap, ◌∙◌}
 use native.Mathlib.Omega.{arith}
 use Rattle.model.specs.Rules.Word.{byte_at}
@@ -11,9 +11,7 @@ use Rattle.text_list.proofs.list_token.Goals.{After-cell-number, After-operand_b
 
 -- the number of the next operand
 number : (e : After-cell-number) → let s = e in e.cell-number.result ≡ byte_at cells s.args.pending
-number e =
-    let s = e in
-    e.cell-number.ensures ∙ ap (λ (t : List ℕ). byte_at t s.args.pending) s.requires.0
+number e = cc
 
 none : (t : Then-number-eq0) → let s = t in pending_at s.args.pending ≡ []
 none t = let s = t in pending-none s.args.pending
@@ -38,7 +36,7 @@ operand o =
 pub list_keyword-requires : goal.list_keyword-requires
 list_keyword-requires c =
     let t = (goal.at.list_keyword-requires c).Then-number-eq0 in
-    (c.requires.0, c.requires.1, rw (none t) at c.requires.2)
+    (c.requires.0, rw (none t) at c.requires.1)
 
 pub returns-then-number-eq0 : goal.returns-then-number-eq0
 returns-then-number-eq0 c = rw (none (goal.at.returns-then-number-eq0 c).Then-number-eq0) c.list_keyword.ensures
@@ -46,10 +44,10 @@ returns-then-number-eq0 c = rw (none (goal.at.returns-then-number-eq0 c).Then-nu
 pub list_operand-requires : goal.list_operand-requires
 list_operand-requires c =
     let o = (goal.at.list_operand-requires c).After-operand_by-operand in
-    (c.requires.0, c.requires.1, rw (operand o) at c.requires.2)
+    (c.requires.0, rw (operand o) at c.requires.1)
 
 pub returns : goal.returns
 returns c = rw (operand (goal.at.returns c).After-operand_by-operand) c.list_operand.ensures
 
-pub overflow_add-next : goal.overflow_add-next
-overflow_add-next c = omega (arith, (more (goal.at.overflow_add-next c).Else-number-eq0).0)
+pub overflow_add-pending : goal.overflow_add-pending
+overflow_add-pending c = omega (arith, (more (goal.at.overflow_add-pending c).Else-number-eq0).0)

@@ -1,6 +1,7 @@
 -- `text_list::listed_length` meets its contract. Assumes nothing.
 use mathlib.Core.Path.{refl, sym, ap, ◌∙◌}
 use native.Mathlib.Omega.{arith}
+use Rattle.std.proofs.lemmas.Result.{err_from_is_err_and}
 use Rattle.model.specs.Rules.TextForm.{listed_at}
 use Rattle.model.specs.Rules.Word.{AreBytes}
 use Rattle.text_keyword.specs.Cells.{pending_at}
@@ -8,54 +9,53 @@ use Rattle.text_keyword.specs.Written.{length_answer}
 use Rattle.text_list.proofs.Walk.{Short, is-short, room-short, Told, puts-fine, puts-fault}
 use Rattle.text_list.proofs.Walk.{measured-starts, measured-next, measured-refused, measured-ends}
 use Rattle.text_list.proofs.listed_length.Goals as goal
-use Rattle.text_list.proofs.listed_length.Goals.{At-loop-at, In_default, Start}
+use Rattle.text_list.proofs.listed_length.Goals.{At-loop-at, In_ok-put, Start}
 
 abbrev start : At-loop-at → Start
 start l = (goal.at.At-loop-at l).Start
 
 are : (l : At-loop-at) → AreBytes (start l).args.bytes.now
-are l = λ i. omega (arith, l.shared_slice_known-2-1.given i)
+are l = λ i. omega (arith, l.type_inv.bytes i)
 
-pub list_token-put-requires : goal.list_token-put-requires
-list_token-put-requires c =
-    let l = (goal.at.list_token-put-requires c).At-loop-at in (
-      (start l).requires.0,
+pub list_token-requires : goal.list_token-requires
+list_token-requires c =
+    let l = (goal.at.list_token-requires c).At-loop-at in (
       omega arith,
       room-short (start l).args.bytes.now (are l) l.loop-at.at (pending_at l.loop-at.pending)
           l.loop-at.token (omega (arith, l.loop-at.invariant.0)),
     )
 
-pub returns-in-Refused : goal.returns-in-Refused
-returns-in-Refused c =
-    let l = (goal.at.returns-in-Refused c).At-loop-at in
+pub returns-in_err-put : goal.returns-in_err-put
+returns-in_err-put c =
+    let p = err_from_is_err_and c.from_residual.result c.from_residual.ensures.1 in
+    let l = (goal.at.returns-in_err-put c).At-loop-at in
     let bytes = (start l).args.bytes.now in
-    sym (ap length_answer
+    rw (p.1, p.2) (sym (ap length_answer
     (measured-refused bytes l.loop-at.at l.loop-at.pending l.loop-at.total _ l.loop-at.invariant.1 (omega arith)
-    (puts-fault (listed_at bytes l.loop-at.at (pending_at l.loop-at.pending)) l.loop-at.at 0 _ _ c.list_token-put.result _
-    c.list_token-put.ensures c.in-Refused.is)))
+    (puts-fault (listed_at bytes l.loop-at.at (pending_at l.loop-at.pending)) l.loop-at.at 0 _ _ _ c.in_err-put.ensures))))
 
 -- what was put
-told : (t : In_default) → let p = t in
-    let l = (goal.at.In_default t).At-loop-at in
+told : (t : In_ok-put) → let p = t in
+    let l = (goal.at.In_ok-put t).At-loop-at in
     Told (listed_at (start l).args.bytes.now l.loop-at.at (pending_at l.loop-at.pending)) l.loop-at.at l.loop-at.token
-    p.list_token-put.new.out p.list_token-put.result
+    p.list_token.new.out p.in_ok-put.put
 told t =
     let p = t in
-    let l = (goal.at.In_default t).At-loop-at in
+    let l = (goal.at.In_ok-put t).At-loop-at in
     puts-fine (listed_at (start l).args.bytes.now l.loop-at.at (pending_at l.loop-at.pending)) l.loop-at.at l.loop-at.token
-    p.list_token-put.new.out p.list_token-put.result p.list_token-put.ensures t.in_default.is
+    p.list_token.new.out p.in_ok-put.put p.in_ok-put.ensures
 
-short : (t : In_default) → let l = t in
+short : (t : In_ok-put) → let l = t in
     Short l.loop-at.at (told t).x
 short t =
-    let l = (goal.at.In_default t).At-loop-at in
+    let l = (goal.at.In_ok-put t).At-loop-at in
     is-short (start l).args.bytes.now (are l) l.loop-at.at (pending_at l.loop-at.pending) (told t).x (told t).listed
 
 pub loop-at-preserved : goal.loop-at-preserved
 loop-at-preserved c =
-    let t = (goal.at.loop-at-preserved c).In_default in
+    let t = (goal.at.loop-at-preserved c).In_ok-put in
     let l = (goal.at.loop-at-preserved c).At-loop-at in
-    let r = c.list_token-put.result in
+    let r = c.in_ok-put.put in
     let h = told t in (
       h.same ∙ l.loop-at.invariant.0,
       measured-next (start l).args.bytes.now l.loop-at.at l.loop-at.pending l.loop-at.total r.next r.width
@@ -65,15 +65,15 @@ loop-at-preserved c =
 
 pub overflow_add-total : goal.overflow_add-total
 overflow_add-total c =
-    let t = (goal.at.overflow_add-total c).In_default in
+    let t = (goal.at.overflow_add-total c).In_ok-put in
     let l = (goal.at.overflow_add-total c).At-loop-at in
-    omega (arith, l.loop-at.invariant.1.low, (start l).requires.1, (told t).end, (short t).short)
+    omega (arith, l.loop-at.invariant.1.low, (start l).requires, (told t).end, (short t).short)
 
 pub overflow_add-at : goal.overflow_add-at
-overflow_add-at c = let t = (goal.at.overflow_add-at c).In_default in omega (arith, (told t).width, (short t).narrow)
+overflow_add-at c = let t = (goal.at.overflow_add-at c).In_ok-put in omega (arith, (told t).width, (short t).narrow)
 
 pub loop-at-smaller : goal.loop-at-smaller
-loop-at-smaller c = let t = (goal.at.loop-at-smaller c).In_default in omega (arith, (told t).width, (short t).some)
+loop-at-smaller c = let t = (goal.at.loop-at-smaller c).In_ok-put in omega (arith, (told t).width, (short t).some)
 
 pub returns : goal.returns
 returns c =

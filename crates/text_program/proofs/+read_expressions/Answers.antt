@@ -1,11 +1,10 @@
 -- `text_program::read_expressions` meets its contract: the measure is the depth that is still allowed. Assumes nothing.
+use Rattle.std.specs.Prelude.{Result, Ok}
 use Prim.Native.Nat.{ℕ, suc, ◌+◌, ◌-◌, ◌≤◌, ◌<◌}
 use mathlib.Core.Bool.{true}
 use mathlib.Core.List.{List}
-use mathlib.Core.Logic.{inl, inr}
 use mathlib.Core.Path.{◌≡◌, refl, sym, ap, subst, ◌∙◌}
 use native.Mathlib.Omega.{arith}
-use borrow.Author.Rules.{rules}
 use Rattle.std.proofs.lemmas.Grind.{common_steps}
 use lib.IntN.{ℤ}
 use lib.ListN.{length}
@@ -14,24 +13,26 @@ use Rattle.model.specs.Rules.Program.{Expr, constant, read, is_allowed, node, pa
 use Rattle.model.specs.Rules.Width.{read_width}
 use Rattle.model.specs.declared.Kind.{Kind}
 use Rattle.model.specs.declared.Operator.{Operator}
-use Rattle.model.specs.declared.Operator.TheVariants as Operator
 use Rattle.model.specs.declared.Sampled.{Sampled}
 use Rattle.text_command.specs.Operator.{operands_of, lookups_of}
 use Rattle.text_program.specs.Walks.{outline_of, outlines, leaf_of, WalkRoom, Walks}
 use Rattle.text_program.specs.declared.Walk.{Walk}
-use Rattle.text_program.specs.declared.Walked.{Walked}
-use Rattle.text_program.specs.declared.Walked.TheVariants as Walked
+use Rattle.model.specs.declared.Fault.{Fault}
 use Rattle.text_program.proofs.Operators.{parse-node, operator-inside, read-allowed}
 use Rattle.text_program.proofs.Outlines.{leaf-outline, operator-outline, walks-operated}
 use Rattle.text_program.proofs.Walks.{walks-none, walks-stop, walks-first, walks-deep, parsed-spans, ahead}
 use Rattle.text_program.proofs.+read_expressions.Goals as goal
-use Rattle.text_program.proofs.+read_expressions.Goals.{Joined-operands-eq0, then-operands-eq0+in-Next, else-operands-eq0+in-Next-below}
-use Rattle.text_program.proofs.+read_expressions.Goals.{After-operands_of-operands, In-loop-left, Start}
+use Rattle.text_program.proofs.+read_expressions.Goals.{
+  Joined-operands-eq0,
+  then-operands-eq0+in-Ok,
+  else-operands-eq0+in-Ok-below,
+}
+use Rattle.text_program.proofs.+read_expressions.Goals.{After-operands_of-operands, In-loop, Start}
 
 -- in a turn
-module _ (t : ℕ) (b : In-loop-left t) where
+module _ (t : ℕ) (b : In-loop t) where
   abbrev start : Start t
-  start = (goal.at.In-loop-left t b).Start
+  start = (goal.at.In-loop t b).Start
 
   abbrev text : List ℕ
   text = start.args.text.now.now
@@ -43,32 +44,33 @@ module _ (t : ℕ) (b : In-loop-left t) where
   depth = start.args.depth
 
   abbrev walk : Walk
-  walk = b.loop-left.walk
+  walk = b.loop.walk
 
+  -- how many expressions are left after this one
   abbrev left : ℕ
-  left = b.loop-left.left
+  left = start.args.number - (b.loop.counter + 1)
 
   abbrev table : List ℕ
-  table = b.loop-left.reads
+  table = b.loop.reads
 
   room : WalkRoom (length text) walk.at walk.reads walk.code walk.lookups (length table)
-  room = b.loop-left.invariant.0
+  room = b.loop.invariant.0
 
-  answers : (l' : List ℕ) (r : Walked) →
-      Walks (outlines (parse_expr least depth text) (suc (left - 1)) walk.at) table walk.reads walk.code walk.lookups
+  answers : (l' : List ℕ) (r : Result Walk Fault) →
+      Walks (outlines (parse_expr least depth text) (suc left) walk.at) table walk.reads walk.code walk.lookups
       l' r →
       Walks (outlines (parse_expr least depth text) start.args.number start.args.at) start.args.reads.now
       start.args.count start.args.to start.args.looks l' r
   answers l' r w =
-      let z : suc (left - 1) ≡ left = omega (arith, b.loop-left-test.true) in
-      b.loop-left.invariant.2 l' r
+      let z : suc left ≡ start.args.number - b.loop.counter = omega (arith, b.loop-test.true) in
+      b.loop.invariant.2 l' r
       (subst (λ n. Walks (outlines (parse_expr least depth text) n walk.at) table walk.reads walk.code walk.lookups
       l' r) z w)
 
 -- where the operator is known, and the depth is not 0
 module _ (t : ℕ) (o : After-operands_of-operands t) where
-  abbrev turn : In-loop-left t
-  turn = (goal.at.After-operands_of-operands t o).In-loop-left
+  abbrev turn : In-loop t
+  turn = (goal.at.After-operands_of-operands t o).In-loop
 
   abbrev at : ℕ
   at = (walk t turn).at
@@ -107,21 +109,22 @@ module _ (t : ℕ) (o : After-operands_of-operands t) where
       (λ e. h (o.operands_of-operands.ensures ∙ ap operands_of (sym e)))
 
   -- One expression is read: a leaf, or an operator with its operands.
-  abbrev Reads : List ℕ → Walked → Type 0
+  abbrev Reads : List ℕ → Result Walk Fault → Type 0
   Reads l' r =
       Walks (outline_of (parse_expr (least t turn) (depth t turn) (text t turn) at)) (table t turn) (walk t turn).reads
       (walk t turn).code (walk t turn).lookups l' r
 
-  leaf-read : {l' : List ℕ} {r : Walked} → o.operands_of-operands.result ≡ 0 →
+  leaf-read : {l' : List ℕ} {r : Result Walk Fault} → o.operands_of-operands.result ≡ 0 →
       Walks (leaf_of (length (text t turn)) at operator) (table t turn) (walk t turn).reads (walk t turn).code
       (walk t turn).lookups l' r →
       Reads l' r
   leaf-read z w =
-      let e = ap outline_of step ∙ leaf-outline sub (least t turn) (text t turn) at operator (sym o.operands_of-operands.ensures ∙ z)
+      let e = ap outline_of step ∙
+      leaf-outline sub (least t turn) (text t turn) at operator (sym o.operands_of-operands.ensures ∙ z)
       allowed in
       rw e w
 
-  operator-read : {l' : List ℕ} {r : Walked} → (o.operands_of-operands.result ≡ 0 → ⊥) →
+  operator-read : {l' : List ℕ} {r : Result Walk Fault} → (o.operands_of-operands.result ≡ 0 → ⊥) →
       Walks (outlines sub (operands_of operator) (at + 1)) (table t turn) (walk t turn).reads ((walk t turn).code + 1)
       ((walk t turn).lookups + lookups_of operator) l' r →
       Reads l' r
@@ -132,128 +135,76 @@ module _ (t : ℕ) (o : After-operands_of-operands t) where
 
 -- where either branch has gone on
 one : (t : ℕ) (j : Joined-operands-eq0 t) → let o = (goal.at.Joined-operands-eq0 t j).After-operands_of-operands in
-    (r : Walked) × (r ≡ Walked.Next j.if-operands-eq0.walk) × Reads t o j.if-operands-eq0.reads r
+    (r : Result Walk Fault) × (r ≡ Ok j.if-operands-eq0.walk) × Reads t o j.if-operands-eq0.reads r
 one t j =
     let o = (goal.at.Joined-operands-eq0 t j).After-operands_of-operands in
     elim j.if-operands-eq0.branch [
-      | then-operands-eq0+in-Next x ↦
-          rw (x.walk-is, x.reads-is) (x.read_leaf-leaf.result, x.in-Next.is, leaf-read t o x.if-operands-eq0.true x.read_leaf-leaf.ensures)
-      | else-operands-eq0+in-Next-below y ↦
+      | then-operands-eq0+in-Ok x ↦
+          rw (x.walk-is, x.reads-is)
+          (x.read_leaf-leaf.result, x.in-Ok.is, leaf-read t o x.if-operands-eq0.true x.read_leaf-leaf.ensures)
+      | else-operands-eq0+in-Ok-below y ↦
           rw (y.walk-is, y.reads-is) (
             y.read_expressions-below.result,
-            y.in-Next-below.is,
+            y.in-Ok-below.is,
             operator-read t o y.if-operands-eq0.false
                 (rw (o.operands_of-operands.ensures, y.in_expression.ensures, y.in_code.ensures, y.lookups_of.ensures.0) at
                 y.read_expressions-below.ensures),
           )
     ]
 
-pub loop-left-init : goal.loop-left-init
-loop-left-init t c = (c.requires, refl, λ l' r w. w)
-
-pub shape_of-reads-then-depth-eq0 : goal.shape_of-reads-then-depth-eq0
-shape_of-reads-then-depth-eq0 t c = c.loop-left.invariant.1
-
 pub returns-then-depth-eq0 : goal.returns-then-depth-eq0
 returns-then-depth-eq0 t c =
-    let b = (goal.at.returns-then-depth-eq0 t c).In-loop-left in
+    let b = (goal.at.returns-then-depth-eq0 t c).In-loop in
     answers t b _ _ (walks-deep _ _ _ _ _ c.if-depth-eq0.true c.too_deep.ensures)
 
 pub read_leaf-leaf-requires : goal.read_leaf-leaf-requires
 read_leaf-leaf-requires t c =
     let o = (goal.at.read_leaf-leaf-requires t c).After-operands_of-operands in
-    record { left = room t (goal.at.After-operands_of-operands t o).In-loop-left; constant-inside = constant-inside t o; read-inside = read-inside t o }
+    record { left = room t (turn t o); constant-inside = constant-inside t o; read-inside = read-inside t o }
 
 pub overflow_add-walk : goal.overflow_add-walk
 overflow_add-walk t c =
     let o = (goal.at.overflow_add-walk t c).After-operands_of-operands in
-    omega (arith, inside t o c.if-operands-eq0.false, (room t (goal.at.After-operands_of-operands t o).In-loop-left).short, c.in_expression.ensures)
+    omega (arith, inside t o c.if-operands-eq0.false, (room t (turn t o)).short, c.in_expression.ensures)
 
 pub overflow_add-walk-else-operands-eq0 : goal.overflow_add-walk-else-operands-eq0
 overflow_add-walk-else-operands-eq0 t c =
-    let e = c in
-    let h = room t (goal.at.overflow_add-walk-else-operands-eq0 t e).In-loop-left in
-    omega (arith, inside t (goal.at.overflow_add-walk-else-operands-eq0 t e).After-operands_of-operands e.if-operands-eq0.false, h.short, h.small, c.in_code.ensures)
+    let o = (goal.at.overflow_add-walk-else-operands-eq0 t c).After-operands_of-operands in
+    let h = room t (turn t o) in
+    omega (arith, inside t o c.if-operands-eq0.false, h.short, h.small, c.in_code.ensures)
 
 pub overflow_add-walk-else-operands-eq0-2 : goal.overflow_add-walk-else-operands-eq0-2
 overflow_add-walk-else-operands-eq0-2 t c =
-    let e = c in
-    let h = room t (goal.at.overflow_add-walk-else-operands-eq0-2 t e).In-loop-left in
-    omega (arith, inside t (goal.at.overflow_add-walk-else-operands-eq0-2 t e).After-operands_of-operands e.if-operands-eq0.false, h.short, h.rare, c.lookups_of.ensures.1)
-
-pub overflow_sub-depth : goal.overflow_sub-depth
-overflow_sub-depth t c =
-    let o = c in
-    omega (arith, o.if-depth-eq0.false)
-
-pub read_expressions-below-requires : goal.read_expressions-below-requires
-read_expressions-below-requires t c =
-    let looks = c.lookups_of in
-    let code = c.in_code in
-    let wide = c.in_expression in
-    let o = (goal.at.read_expressions-below-requires t c).After-operands_of-operands in
-    let h = room t (goal.at.After-operands_of-operands t o).In-loop-left in (
-      omega (arith, o.if-depth-eq0.false, c.decreases),
-      record {
-        short = h.short;
-        table = h.table;
-        few = omega (arith, h.few);
-        small = omega (arith, h.small, wide.ensures, code.ensures);
-        rare = omega (arith, h.rare, wide.ensures, looks.ensures.1);
-      },
-    )
-
-pub shape_of-reads-in_default : goal.shape_of-reads-in_default
-shape_of-reads-in_default t c =
-    let l = c in
-    c.reads-1.given ∙ (turn t (goal.at.shape_of-reads-in_default t l).After-operands_of-operands).loop-left.invariant.1
+    let o = (goal.at.overflow_add-walk-else-operands-eq0-2 t c).After-operands_of-operands in
+    let h = room t (turn t o) in
+    omega (arith, inside t o c.if-operands-eq0.false, h.short, h.rare, c.lookups_of.ensures.1)
 
 pub returns-in_default : goal.returns-in_default
 returns-in_default t c =
-    let l = c in
     let o = (goal.at.returns-in_default t c).After-operands_of-operands in
-    answers t (goal.at.After-operands_of-operands t o).In-loop-left _ _
-    (walks-stop _ _ _ (leaf-read t o l.if-operands-eq0.true l.read_leaf-leaf.ensures) c.in_default.is)
-
-pub shape_of-reads-in_default-below : goal.shape_of-reads-in_default-below
-shape_of-reads-in_default-below t c =
-    let l = c in
-    let o = (goal.at.shape_of-reads-in_default-below t c).After-operands_of-operands in
-    c.reads-else-operands-eq0-1.given ∙ (turn t o).loop-left.invariant.1
+    answers t (turn t o) _ _
+    (walks-stop _ _ _ (leaf-read t o c.if-operands-eq0.true c.read_leaf-leaf.ensures) c.in_default.is)
 
 pub returns-in_default-below : goal.returns-in_default-below
 returns-in_default-below t c =
-    let l = c in
-    let looks = c in
-    let code = c in
-    let wide = c in
     let o = (goal.at.returns-in_default-below t c).After-operands_of-operands in
-    answers t (goal.at.After-operands_of-operands t o).In-loop-left _ _
+    answers t (turn t o) _ _
     (walks-stop _ _ _
-    (operator-read t o wide.if-operands-eq0.false
-    (rw (o.operands_of-operands.ensures, wide.in_expression.ensures, code.in_code.ensures, looks.lookups_of.ensures.0) at
-    l.read_expressions-below.ensures)) c.in_default-below.is)
+    (operator-read t o c.if-operands-eq0.false
+    (rw (o.operands_of-operands.ensures, c.in_expression.ensures, c.in_code.ensures, c.lookups_of.ensures.0) at
+    c.read_expressions-below.ensures)) c.in_default-below.is)
 
-pub overflow_sub-left : goal.overflow_sub-left
-overflow_sub-left t j = omega (arith, (turn t (goal.at.overflow_sub-left t j).After-operands_of-operands).loop-left-test.true)
-
-pub loop-left-smaller : goal.loop-left-smaller
-loop-left-smaller t j = omega (arith, (turn t (goal.at.loop-left-smaller t j).After-operands_of-operands).loop-left-test.true)
-
-pub loop-left-preserved : goal.loop-left-preserved
-loop-left-preserved t j =
-    let b = (goal.at.loop-left-preserved t j).In-loop-left in
+pub loop-preserved : goal.loop-preserved
+loop-preserved t j =
+    let b = (goal.at.loop-preserved t j).In-loop in
     let o = one t j in (
       (ahead (least t b) (text t b) (depth t b) (room t b) o.2 o.1).left,
       grind (arith, common_steps),
       λ l' r w. answers t b l' r (walks-first _ _ _ o.2 o.1 w),
     )
 
-pub shape_of-reads : goal.shape_of-reads
-shape_of-reads t c = c.loop-left.invariant.1
-
 pub returns : goal.returns
 returns t c =
-    let l = c.loop-left in
-    let z : l.left ≡ 0 = omega (arith, c.loop-left-test.false) in
+    let l = c.loop in
+    let z : c.args.number - l.counter ≡ 0 = omega (arith, c.loop-test.false) in
     l.invariant.2 _ _ (rw z (walks-none _ _ refl))

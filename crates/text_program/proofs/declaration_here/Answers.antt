@@ -1,8 +1,8 @@
 -- `text_program::declaration_here` meets its contract. Assumes nothing.
 use Prim.Native.Nat.{ℕ, ◌<◌}
-use borrow.Author.Rules.{rules}
 use borrow.Author.Tests.{lt-ltb, le-ltb, ne_eqb}
 use lib.ListN.{length}
+use mathlib.Core.Bool.{Bool, true, false, not}
 use mathlib.Core.List.{List}
 use mathlib.Core.Path.{◌≡◌, sym, ap, ◌∙◌}
 use Rattle.model.specs.Rules.Outcome.{◌▷◌, provided}
@@ -11,6 +11,10 @@ use Rattle.model.specs.Rules.Word.{byte_at}
 use Rattle.basics.specs.Judgement.{judgement_of}
 use Rattle.text_program.proofs.declaration_here.Goals as goal
 use Rattle.text_program.proofs.declaration_here.Goals.{Else-text-at}
+
+not-not : {a b : Bool} → a ≡ not b → b ≡ not a
+not-not {b = true} e = rw e
+not-not {b = false} e = rw e
 
 of-byte : (text : List ℕ) (at : ℕ) (p : Program) → at < length text → declaration_here text at p ≡ room_for at p (byte_at text at)
 unfolding declaration_here provided ◌▷◌
@@ -53,7 +57,8 @@ returns-in-18 c = λ p k.
 pub returns-in-20 : goal.returns-in-20
 unfolding room_for
 returns-in-20 c = λ p k.
-    (rw (← k.cap-is) at c.judge-in-20.ensures) ∙ sym (inside (goal.at.returns-in-20 c).Else-text-at p ∙ rw c.in-20.is)
+    (rw (not-not c.is_none.ensures, ← k.cap-is) at c.judge-in-20.ensures) ∙
+    sym (inside (goal.at.returns-in-20 c).Else-text-at p ∙ rw c.in-20.is)
 
 pub returns-in-21 : goal.returns-in-21
 unfolding judgement_of room_for
@@ -67,11 +72,10 @@ returns-in-22 c = λ p k.
 pub returns-in_default : goal.returns-in_default
 unfolding judgement_of room_for
 returns-in_default c = λ p k.
-    let e = c in
-    let b = byte_at (text (goal.at.returns-in_default e).Else-text-at) (at (goal.at.returns-in_default e).Else-text-at) in
+    let b = byte_at (text (goal.at.returns-in_default c).Else-text-at) (at (goal.at.returns-in_default c).Else-text-at) in
     let no = c.in_default.in_default-own.rest in
     c.refuse-in_default.ensures ∙
-    sym (inside (goal.at.returns-in_default e).Else-text-at p ∙
+    sym (inside (goal.at.returns-in_default c).Else-text-at p ∙
     simp (
       ne_eqb b 0x00 no.0.0.0.0.0.0.1,
       ne_eqb b 0x10 no.0.0.0.0.0.1,

@@ -1,7 +1,6 @@
 -- `text_program::judge` meets its contract. Assumes nothing.
 use Rattle.basics.specs.Judgement.{judgement_of}
 use Rattle.model.specs.Rules.Outcome.{provided}
-use borrow.Author.Rules.{rules}
 use Rattle.text_program.proofs.judge.Goals as goal
 
 pub returns-then-holds : goal.returns-then-holds

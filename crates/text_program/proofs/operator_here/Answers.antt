@@ -1,5 +1,4 @@
 -- `text_program::operator_here` meets its contract. Assumes nothing.
-use borrow.Author.Rules.{rules}
 use borrow.Author.Tests.{lt-ltb, le-ltb}
 use mathlib.Core.Path.{sym, ◌∙◌}
 use Rattle.model.specs.Rules.Outcome.{◌▷◌, provided}
@@ -11,15 +10,15 @@ pub returns-then-text-at : goal.returns-then-text-at
 unfolding judgement_of operator_here provided ◌▷◌
 returns-then-text-at c = rw (le-ltb _ _ c.if-text-at.true) c.refuse.ensures
 
-pub returns-in-Bytes : goal.returns-in-Bytes
+pub returns-in-Some : goal.returns-in-Some
 unfolding judgement_of operator_here provided ◌▷◌
-returns-in-Bytes c =
+returns-in-Some c =
     let w = c.expression-width.ensures in
-    rw (lt-ltb _ _ c.if-text-at.false, sym w ∙ c.in-Bytes.is)
+    rw (lt-ltb _ _ c.if-text-at.false, sym w ∙ c.in-Some.is)
 
-pub returns-in-Unlisted : goal.returns-in-Unlisted
+pub returns-in-None : goal.returns-in-None
 unfolding judgement_of operator_here provided ◌▷◌
-returns-in-Unlisted c =
+returns-in-None c =
     let w = c.expression-width.ensures in
-    rw (lt-ltb _ _ c.if-text-at.false, sym w ∙ c.in-Unlisted.is)
-    c.refuse-in-Unlisted.ensures
+    rw (lt-ltb _ _ c.if-text-at.false, sym w ∙ c.in-None.is)
+    c.refuse-in-None.ensures

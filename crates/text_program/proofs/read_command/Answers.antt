@@ -1,20 +1,17 @@
 -- `text_program::read_command` meets its contract. Assumes nothing.
 use Prim.Native.Nat.{ℕ, ◌<◌}
 use mathlib.Core.List.{List}
-use mathlib.Core.Path.{◌≡◌, refl, sym, ap, subst, ◌∙◌}
+use mathlib.Core.Path.{◌≡◌, refl, sym, subst, ◌∙◌}
 use lib.ListN.{length}
 use native.Mathlib.Omega.{arith}
 use Rattle.model.specs.Rules.Command.{declaration_at}
 use Rattle.model.specs.Rules.Outcome.{Outcome, accepted, refused}
 use Rattle.model.specs.Rules.Program.{Program, declaration_here, declare}
 use Rattle.model.specs.declared.Declaration.{Declaration}
-use Rattle.model.specs.declared.Declaration.TheVariants as Declaration
 use Rattle.model.specs.declared.Fault.{Fault}
 use Rattle.basics.proofs.Judgements.{judgement-fine, judgement-refused}
-use Rattle.text_program.specs.Results.{stop_of}
 use Rattle.text_program.specs.Steps.{Counts, Stepped}
 use Rattle.text_program.specs.declared.Step.{Step}
-use Rattle.text_program.specs.declared.Step.TheVariants as Step
 use Rattle.text_program.proofs.Parts.{declaration-inside}
 use Rattle.text_program.proofs.Steps.{
   step-stopped,
@@ -27,7 +24,8 @@ use Rattle.text_program.proofs.Steps.{
   step-tag,
   step_row,
 }
-use borrow.Author.Rules.{rules}
+use Rattle.std.specs.Prelude.{Result, Err}
+use Rattle.std.proofs.lemmas.Result.{err_from_is_err_and}
 use Rattle.text_program.proofs.read_command.Goals as goal
 use Rattle.text_program.proofs.read_command.Goals.{After-declaration_at-declaration, Start}
 
@@ -46,9 +44,9 @@ module _ (c : After-declaration_at-declaration) where
   at = start.args.walk.at
 
   abbrev HasSoFar : Program → Type 0
-  HasSoFar p = Counts p start.args.signals start.args.chains start.args.rows start.args.capped
+  HasSoFar p = Counts p start.args.tables.now
 
-  abbrev Steps : List ℕ → Step → Type 0
+  abbrev Steps : List ℕ → Result Step Fault → Type 0
   Steps l r =
       (p : Program) (label : ℕ) → HasSoFar p →
       Stepped least text at label p start.args.reads.now start.args.walk.reads
@@ -56,7 +54,7 @@ module _ (c : After-declaration_at-declaration) where
 
   stands : (p : Program) → HasSoFar p → declaration_here text at p ≡ accepted tt
   stands p k =
-      judgement-fine _ _ (c.declaration_here-here.ensures p k) c.in-Fine.is
+      judgement-fine _ _ (c.declaration_here.ensures p k) c.in_ok-declaration_here.was
 
   module _ {k : Declaration} (e : c.declaration_at-declaration.result ≡ k) where
     is : declaration_at text at ≡ k
@@ -65,7 +63,7 @@ module _ (c : After-declaration_at-declaration) where
     inside : (Declaration.EndsEarly ≡ k → ⊥) → at < length text
     inside h = declaration-inside text at is h
 
-    refuses : {f : Fault} {r : Step} → r ≡ Step.Refused f →
+    refuses : {f : Fault} {r : Result Step Fault} → r ≡ Err f →
         ((next : ℕ → ℕ → Program → Outcome Program) (label : ℕ) (p : Program) →
         declare least next text at label p k ≡ refused f) →
         Steps start.args.reads.now r
@@ -73,16 +71,17 @@ module _ (c : After-declaration_at-declaration) where
         subst (Stepped least text at label p _ _ _ _ _) (sym q)
         (step-refused least text at label p _ _ _ _ (stands p n) k _ is (λ next. h next label p))
 
-pub returns-in_default : goal.returns-in_default
-unfolding stop_of
-returns-in_default c = λ p label k.
-    let told = c.in_default.is in
-    subst (Stepped _ _ _ label p _ _ _ _ _) (sym (c.stop.ensures ∙ ap stop_of told))
+pub returns-in_err-declaration_here : goal.returns-in_err-declaration_here
+returns-in_err-declaration_here c = λ p label k.
+    let q = err_from_is_err_and c.from_residual.result c.from_residual.ensures.1 in
+    rw (q.1, q.2)
     (step-stopped _ _ _ label p _ _ _ _
-    (judgement-refused _ _ _ (c.declaration_here-here.ensures p k) told))
+    (judgement-refused _ _ _ (c.declaration_here.ensures p k) c.in_err-declaration_here.was))
 
 pub end_step-requires : goal.end_step-requires
-end_step-requires c = inside (goal.at.end_step-requires c).After-declaration_at-declaration c.in-End.is (λ e. let z : ◌≡◌ {A = ℕ} 0 1 = cc in omega arith)
+end_step-requires c =
+    inside (goal.at.end_step-requires c).After-declaration_at-declaration c.in-End.is
+    (λ e. let z : ◌≡◌ {A = ℕ} 0 1 = cc in omega arith)
 
 pub input_step-requires : goal.input_step-requires
 input_step-requires c =
@@ -96,7 +95,9 @@ equation_step-requires c =
     (inside b c.in-Equation.is (λ e. let z : ◌≡◌ {A = ℕ} 0 1 = cc in omega arith), (start b).requires)
 
 pub chain_step-requires : goal.chain_step-requires
-chain_step-requires c = inside (goal.at.chain_step-requires c).After-declaration_at-declaration c.in-Latency.is (λ e. let z : ◌≡◌ {A = ℕ} 0 1 = cc in omega arith)
+chain_step-requires c =
+    inside (goal.at.chain_step-requires c).After-declaration_at-declaration c.in-Latency.is
+    (λ e. let z : ◌≡◌ {A = ℕ} 0 1 = cc in omega arith)
 
 pub overflow_add-at : goal.overflow_add-at
 overflow_add-at c =
@@ -112,22 +113,26 @@ overflow_add-at-in-Row c =
 
 pub tag_step-requires : goal.tag_step-requires
 tag_step-requires c =
-    inside (goal.at.tag_step-requires c).After-declaration_at-declaration c.in-Tag.is (λ e. let z : ◌≡◌ {A = ℕ} 0 1 = cc in omega arith)
+    inside (goal.at.tag_step-requires c).After-declaration_at-declaration c.in-Tag.is
+    (λ e. let z : ◌≡◌ {A = ℕ} 0 1 = cc in omega arith)
 
 pub returns-in-EndsEarly : goal.returns-in-EndsEarly
 unfolding declare
 returns-in-EndsEarly c =
-    refuses (goal.at.returns-in-EndsEarly c).After-declaration_at-declaration c.in-EndsEarly.is c.refuse_step.ensures (λ next label p. refl)
+    refuses (goal.at.returns-in-EndsEarly c).After-declaration_at-declaration c.in-EndsEarly.is c.refuse.ensures
+    (λ next label p. refl)
 
 pub returns-in-Unknown : goal.returns-in-Unknown
 unfolding declare
 returns-in-Unknown c =
-    refuses (goal.at.returns-in-Unknown c).After-declaration_at-declaration c.in-Unknown.is c.refuse_step-in-Unknown.ensures (λ next label p. refl)
+    refuses (goal.at.returns-in-Unknown c).After-declaration_at-declaration c.in-Unknown.is c.refuse-in-Unknown.ensures
+    (λ next label p. refl)
 
 pub returns-in-OutOfRange : goal.returns-in-OutOfRange
 unfolding declare
 returns-in-OutOfRange c =
-    refuses (goal.at.returns-in-OutOfRange c).After-declaration_at-declaration c.in-OutOfRange.is c.refuse_step-in-OutOfRange.ensures (λ next label p. refl)
+    refuses (goal.at.returns-in-OutOfRange c).After-declaration_at-declaration c.in-OutOfRange.is c.refuse-in-OutOfRange.ensures
+    (λ next label p. refl)
 
 pub returns-in-End : goal.returns-in-End
 returns-in-End c = λ p label k.
@@ -143,11 +148,9 @@ returns-in-Input c = λ p label k.
 
 pub returns-in-Equation : goal.returns-in-Equation
 returns-in-Equation c =
-    let c5 = c in
-    let c7 = c in
     λ p label k.
     let b = (goal.at.returns-in-Equation c).After-declaration_at-declaration in
-    step-equation _ _ _ label p _ _ _ _ (stands b p k) _ _ _ (is b c5.in-Equation.is)
+    step-equation _ _ _ label p _ _ _ _ (stands b p k) _ _ _ (is b c.in-Equation.is)
     c.equation_step.ensures
 
 pub returns-in-Latency : goal.returns-in-Latency
@@ -159,7 +162,8 @@ returns-in-Latency c = λ p label k.
 pub returns-in-Link : goal.returns-in-Link
 unfolding declare
 returns-in-Link c =
-    refuses (goal.at.returns-in-Link c).After-declaration_at-declaration c.in-Link.is c.refuse_step-in-Link.ensures (λ next label p. refl)
+    refuses (goal.at.returns-in-Link c).After-declaration_at-declaration c.in-Link.is c.refuse-in-Link.ensures
+    (λ next label p. refl)
 
 pub returns-in-Cap : goal.returns-in-Cap
 returns-in-Cap c = λ p label k.

@@ -12,11 +12,9 @@ use Rattle.model.specs.declared.Kind.{Kind}
 use Rattle.model.specs.declared.Operator.{Operator}
 use Rattle.model.proofs.Texts.Legal.{read-width}
 use Rattle.model.specs.contracts.Operator.{enum}
-use Rattle.model.specs.declared.Operator.TheVariants as Operator
 use Rattle.model.specs.declared.Sampled.{Sampled}
 use Rattle.text_program.specs.Walks.{Outline, leaf_of}
 use Rattle.text_program.proofs.Walks.{walks-refused, walks-over}
-use borrow.Author.Rules.{rules}
 use Rattle.text_program.proofs.read_leaf.Goals as goal
 use Rattle.text_program.proofs.read_leaf.Goals.{Start}
 
@@ -43,48 +41,26 @@ read_fits s kind x e =
     let room = s.requires.left in
     (omega (arith, h, room.short), omega (arith, h, read-width kind, room.table, room.few))
 
-pub overflow_add-next : goal.overflow_add-next
-overflow_add-next c =
-    let s = c in
-    omega (arith, s.requires.constant-inside _ c.in-Constant.is, s.requires.left.short, c.in_expression.ensures)
-
-pub overflow_add-to : goal.overflow_add-to
-overflow_add-to c =
-    let s = c in
-    let e = c.in-Constant.is in
-    omega (arith, s.requires.constant-inside _ e, s.requires.left.short, s.requires.left.small, c.in_code.ensures)
-
 pub overflow_cast-reads : goal.overflow_cast-reads
 overflow_cast-reads c = omega (arith, (read_fits (goal.at.overflow_cast-reads c).Start _ _ c.in-Read.is).0)
 
-pub bounds-reads-count : goal.bounds-reads-count
-bounds-reads-count c = (read_fits (goal.at.bounds-reads-count c).Start _ _ c.in-Read.is).1
-
-pub overflow_add-next-in-Read : goal.overflow_add-next-in-Read
-overflow_add-next-in-Read c =
-    let s = c in
-    omega (arith, (read_fits (goal.at.overflow_add-next-in-Read s).Start _ _ c.in-Read.is).0, c.of_read.ensures)
-
-pub overflow_add-to-in-Read : goal.overflow_add-to-in-Read
-overflow_add-to-in-Read c =
-    let s = c in
-    let e = c.in-Read.is in
-    omega (arith, (read_fits (goal.at.overflow_add-to-in-Read s).Start _ _ e).0, s.requires.left.small, c.in_code-in-Read.ensures)
+pub bounds-reads-walk : goal.bounds-reads-walk
+bounds-reads-walk c = (read_fits (goal.at.bounds-reads-walk c).Start _ _ c.in-Read.is).1
 
 pub returns-in-EndsEarly : goal.returns-in-EndsEarly
 unfolding leaf_of
-returns-in-EndsEarly c = walks-refused _ (rw c.in-EndsEarly.is) c.refuse_walk.ensures
+returns-in-EndsEarly c = walks-refused _ (rw c.in-EndsEarly.is) c.refuse.ensures
 
 pub returns-in-OutOfRange : goal.returns-in-OutOfRange
 unfolding leaf_of
-returns-in-OutOfRange c = walks-refused _ (rw c.in-OutOfRange.is) c.refuse_walk-in-OutOfRange.ensures
+returns-in-OutOfRange c = walks-refused _ (rw c.in-OutOfRange.is) c.refuse-in-OutOfRange.ensures
 
 pub returns-in-Constant : goal.returns-in-Constant
 unfolding leaf_of
 returns-in-Constant c =
     let x : Outline =
     record { places = []; code = 5; lookups = 0; next = c.args.walk.at + 5 } in
-    walks-over _ x (rw c.in-Constant.is refl) c.moved_on.ensures
+    walks-over _ x (rw c.in-Constant.is refl) refl
     (record {
       goes = omega (arith, c.in_expression.ensures);
       counts = omega arith;
@@ -98,7 +74,7 @@ unfolding leaf_of
 returns-in-Read c =
     let at = c.args.walk.at in
     let x : Outline = record { places = at ∷ []; code = 2; lookups = 0; next = at + read_width c.in-Read.kind } in
-    walks-over _ x (rw c.in-Read.is refl) c.moved_on-in-Read.ensures
+    walks-over _ x (rw c.in-Read.is refl) refl
     (record {
       goes = omega (arith, c.of_read.ensures);
       counts = refl;
@@ -108,4 +84,4 @@ returns-in-Read c =
     })
 
 pub returns-in_default : goal.returns-in_default
-returns-in_default c = walks-refused _ (no-leaf _ _ _ c.in_default.in_default-own.keys5) c.refuse_walk-in_default.ensures
+returns-in_default c = walks-refused _ (no-leaf _ _ _ c.in_default.in_default-own.keys5) c.refuse-in_default.ensures

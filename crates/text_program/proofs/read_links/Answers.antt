@@ -2,10 +2,9 @@
 use Rattle.text_program.specs.Results.{links_of}
 use Prim.Native.Nat.{ℕ, suc, ◌+◌, ◌-◌, ◌≤◌, ◌<◌}
 use mathlib.Core.List.{List, [], ◌∷◌, ◌++◌}
-use mathlib.Core.Path.{◌≡◌, refl, sym, ap, ◌∙◌}
+use mathlib.Core.Path.{◌≡◌, sym, ap, ◌∙◌}
 use lib.ListN.{length, length-append}
 use native.Mathlib.Omega.{arith}
-use borrow.Author.Rules.{rules}
 use Rattle.model.specs.Rules.Program.{Link, parse_links}
 use Rattle.text_program.proofs.Parts.{
   link_at,
@@ -46,16 +45,16 @@ module _ (c : Else-count-ge16) where
 
   more : parse_links 16 text loop.args.at [] ≡
       parse_links (suc (16 - (loop.loop-next.count + 1))) text loop.loop-next.next read
-  more = loop.loop-next.invariant.3 ∙ ap (λ m. parse_links m text loop.loop-next.next read) (some loop.loop-next.count (omega arith))
+  more =
+      loop.loop-next.invariant.3 ∙
+      ap (λ m. parse_links m text loop.loop-next.next read) (some loop.loop-next.count (omega arith))
 
 pub returns-then-count-ge16 : goal.returns-then-count-ge16
 unfolding links_of
 returns-then-count-ge16 c =
-    let c5 = c in
-    let c7 = c in
-    let l = c5.loop-next in
-    let text = c7.args.text.now in
-    c.refuse_links.ensures ∙ sym (ap links_of
+    let l = c.loop-next in
+    let text = c.args.text.now in
+    c.refuse.ensures ∙ sym (ap links_of
     (l.invariant.3 ∙ ap (λ m. parse_links m text l.next l.invariant.0) (none l.count (omega arith)) ∙
     links-many text l.next l.invariant.0 c.if-text-next-ne19.false))
 
@@ -63,7 +62,7 @@ pub returns-in_default : goal.returns-in_default
 unfolding links_of
 returns-in_default c =
     let b = (goal.at.returns-in_default c).Else-count-ge16 in
-    c.refuse_links-in_default.ensures ∙
+    c.refuse-in_default.ensures ∙
     sym (ap links_of
     (more b ∙
     links-cut _ (text b) (loop b).loop-next.next (read b) b.if-text-next-ne19.false
@@ -81,7 +80,9 @@ loop-next-preserved c =
       l.invariant.0 ++ (link_at (text b) l.next ∷ []),
       length-append l.invariant.0 _ ∙ ap (◌+ 1) l.invariant.1,
       omega arith,
-      more b ∙ rw c.in_program-next.ensures (links-more _ (text b) l.next (read b) b.if-text-next-ne19.false (there (goal.at.loop-next-preserved c).In-Link)),
+      more b ∙
+          rw c.in_program-next.ensures
+          (links-more _ (text b) l.next (read b) b.if-text-next-ne19.false (there (goal.at.loop-next-preserved c).In-Link)),
     )
 
 pub returns : goal.returns
@@ -89,12 +90,3 @@ unfolding links_of
 returns c =
     let l = c.loop-next in
     sym (ap links_of (l.invariant.3 ∙ links-past _ _ l.next l.invariant.0 c.loop-next-test.false) ∙ rw l.invariant.1)
-
-pub loop-next-init : goal.loop-next-init
-loop-next-init c = ([], refl, omega arith, refl)
-
-pub overflow_add-next : goal.overflow_add-next
-overflow_add-next c = omega (arith, there (goal.at.overflow_add-next c).In-Link)
-
-pub loop-next-smaller : goal.loop-next-smaller
-loop-next-smaller c = omega (arith, there (goal.at.loop-next-smaller c).In-Link)

@@ -1,22 +1,9 @@
 -- `text_program::read_links` meets its contract. Assumes nothing.
-use Rattle.text_program.specs.Results.{links_of}
-use Prim.Native.Nat.{ℕ, suc, ◌+◌, ◌-◌, ◌≤◌, ◌<◌}
-use mathlib.Core.List.{List, [], ◌∷◌, ◌++◌}
-use mathlib.Core.Path.{◌≡◌, refl, sym, ap, ◌∙◌}
-use lib.ListN.{length, length-append}
-use native.Mathlib.Omega.{arith}
-use borrow.Author.Rules.{rules}
+use Prim.Native.Nat.{◌-◌, ◌≤◌}
+use mathlib.Core.List.{List, []}
+use mathlib.Core.Path.{◌≡◌}
+use lib.ListN.{length}
 use Rattle.model.specs.Rules.Program.{Link, parse_links}
-use Rattle.text_program.proofs.Parts.{
-  link_at,
-  link-missing,
-  link-there,
-  links_end,
-  links-past,
-  links-many,
-  links-cut,
-  links-more,
-}
 use Rattle.text_program.proofs.read_links.Given as goal
 
 abbrev pub invariant-loop-next : goal.invariant-loop-next

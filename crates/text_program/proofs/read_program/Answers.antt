@@ -1,267 +1,104 @@
 -- `text_program::read_program` meets its contract. Assumes nothing.
-use Prim.Native.Nat.{ℕ, ◌-◌, ◌<◌}
+use Prim.Native.Nat.{ℕ}
 use mathlib.Core.List.{List}
-use mathlib.Core.Path.{◌≡◌, refl, subst, ◌∙◌}
-use lib.ListN.{length}
+use mathlib.Core.Path.{◌≡◌, refl, sym, ap, subst, ◌∙◌}
 use native.Mathlib.Omega.{arith}
-use borrow.Author.Rules.{rules}
+use Rattle.std.specs.Prelude.{Result, Ok}
+use Rattle.std.proofs.lemmas.Result.{err_from_is_err_and}
+use Rattle.model.specs.declared.Fault.{Fault}
 use Rattle.text_program.specs.Steps.{Added, Stepped}
-use Rattle.basics.specs.declared.Judged.TheVariants as Judged
-use Rattle.text_program.specs.declared.Entry.{Entry}
+use Rattle.text_program.specs.declared.Step.{Step}
 use Rattle.text_program.specs.declared.Walk.{Walk}
 use Rattle.text_program.proofs.Tabled.{
   Reading,
   same_size,
-  signal-next,
-  SpaceLeft,
-  signal-fits,
-  chain_next,
-  chain_fits,
-  cap-next,
-  tag-next,
-  row_next,
-  row_fits,
+  entry-fits,
+  entry-next,
+  lookups-next,
   program-refused,
   program-done,
   program-ends,
   starts-empty,
 }
-use borrow.Enum.Refused.{opened}
 use Rattle.text_program.proofs.read_program.Goals as goal
-use Rattle.text_program.proofs.read_program.Goals.{After-read_command-step, At-loop-at, In-Adds, In-Chain, In-Row, In-Signal, In_default, Start}
+use Rattle.text_program.proofs.read_program.Goals.{After-read_command, At-loop-walk, In-Adds}
 
--- where a step adds an entry
-module _ (c : In-Adds) where
-  abbrev b : After-read_command-step
-  b = (goal.at.In-Adds c).After-read_command-step
-
-  abbrev top : At-loop-at
-  top = (goal.at.In-Adds c).At-loop-at
-
-  abbrev start : Start
-  start = (goal.at.In-Adds c).Start
+-- where a command is read
+module _ (c : After-read_command) where
+  abbrev top : At-loop-walk
+  top = (goal.at.After-read_command c).At-loop-walk
 
   abbrev least : ℕ
-  least = start.args.least
+  least = c.args.least
 
   abbrev text : List ℕ
-  text = start.args.text.now
+  text = c.args.text.now
 
-  reading :
-      let l = top.loop-at in Reading least text l.reads l.tables l.at l.label l.count l.to
-  reading = top.loop-at.invariant.2
+  abbrev before : Walk
+  before = c.loop-walk.walk
 
-  inside : top.loop-at.at < length text
-  inside = b.loop-at-test.true
+  reading : Reading least text c.loop-walk.reads c.loop-walk.tables before.at c.loop-walk.label before.reads before.code
+  reading = c.loop-walk.invariant.2
 
   abbrev kept : List ℕ
-  kept = b.read_command-step.new.reads
+  kept = c.read_command.new.reads
 
-  abbrev entry : Entry
-  entry = c.in-Adds.entry
+  stepped : {r : Result Step Fault} → c.read_command.result ≡ r →
+      Stepped least text before.at c.loop-walk.label reading.program c.loop-walk.reads before.reads before.code
+      c.loop-walk.tables.lookups kept r
+  stepped e =
+      subst
+      (Stepped least text before.at c.loop-walk.label reading.program c.loop-walk.reads before.reads before.code
+      c.loop-walk.tables.lookups kept)
+      e (rw c.loop-walk.invariant.1 at c.read_command.ensures reading.program c.loop-walk.label reading.tables.counts)
 
-  abbrev walk : Walk
-  walk = c.in-Adds.walk
+-- where it adds an entry
+module _ (c : In-Adds) where
+  abbrev b : After-read_command
+  b = (goal.at.In-Adds c).After-read_command
 
   added :
-      Added least text top.loop-at.at top.loop-at.label reading.program entry top.loop-at.reads top.loop-at.count
-      top.loop-at.to top.loop-at.tables.lookups kept walk
+      Added (least b) (text b) (before b).at b.loop-walk.label (reading b).program c.in-Adds.entry b.loop-walk.reads
+      (before b).reads (before b).code b.loop-walk.tables.lookups (kept b) c.in-Adds.next
   unfolding Stepped
-  added =
-      subst
-      (Stepped least text top.loop-at.at top.loop-at.label reading.program top.loop-at.reads top.loop-at.count
-      top.loop-at.to top.loop-at.tables.lookups
-      kept)
-      c.in-Adds.is (b.read_command-step.ensures reading.program top.loop-at.label reading.tables.counts)
+  added = stepped b (c.in_ok-step.was ∙ ap Ok c.in-Adds.is)
 
-  place-small : top.loop-at.at < 65536
-  place-small = omega (arith, inside, start.requires.0)
+pub loop-walk-init : goal.loop-walk-init
+loop-walk-init c =
+    let u = c.new-tables.ensures in
+    (refl, sym u.no-lookups, starts-empty _ _ _ _ c.requires.0 c.requires.1 u)
 
-  forward : length text - walk.at < length text - top.loop-at.at
-  forward = omega (arith, added.forward, inside)
+pub add-label-requires : goal.add-label-requires
+add-label-requires c =
+    let k = (goal.at.add-label-requires c).In-Adds in
+    (omega (arith, c.loop-walk-test.true, c.requires.0), entry-fits (reading (b k)) c.loop-walk-test.true (added k))
 
-  kept-size : length kept ≡ length top.loop-at.reads
-  kept-size = same_size reading inside added
+pub loop-walk-preserved : goal.loop-walk-preserved
+loop-walk-preserved c =
+    let k = (goal.at.loop-walk-preserved c).In-Adds in
+    let r = reading (b k) in
+    let lt = c.loop-walk-test.true in
+    rw (c.add-label.ensures.0, c.add-label.ensures.1) (
+      same_size r lt (added k) ∙ c.loop-walk.invariant.0,
+      lookups-next r lt (added k),
+      entry-next r lt (added k),
+    )
 
--- where a signal is added, or a chain
-module _ (c : In-Signal) where
-  abbrev adds : In-Adds
-  adds = (goal.at.In-Signal c).In-Adds
+pub loop-walk-smaller : goal.loop-walk-smaller
+loop-walk-smaller c =
+    let k = (goal.at.loop-walk-smaller c).In-Adds in
+    omega (arith, (added k).forward, c.loop-walk-test.true)
 
-  fits : SpaceLeft (reading adds) (inside adds) (added adds)
-  fits = signal-fits (reading adds) (inside adds) (added adds) c.in-Signal.is
-
-chains-below : (c : In-Chain) → (top (goal.at.In-Chain c).In-Adds).loop-at.tables.chains < 16
-chains-below c =
-    let k = (goal.at.In-Chain c).In-Adds in chain_fits (reading k) (inside k) (added k) c.in-Chain.is
-
-rows-below : (c : In-Row) → (top (goal.at.In-Row c).In-Adds).loop-at.tables.rows < 32
-rows-below c = let k = (goal.at.In-Row c).In-Adds in row_fits (reading k) (inside k) (added k) c.in-Row.is
-
-pub loop-at-init : goal.loop-at-init
-loop-at-init c =
-    let pre = c.requires in
-    (refl, c.new-tables.ensures.judged-is, starts-empty _ _ _ _ pre.0 pre.1 c.new-tables.ensures)
-
--- where a step adds nothing
-module _ (m : In_default) where
-  abbrev asked : After-read_command-step
-  asked = (goal.at.In_default m).After-read_command-step
-
-  abbrev turn : At-loop-at
-  turn = (goal.at.In_default m).At-loop-at
-
-  abbrev read : let l = turn.loop-at in let a = turn.args in
-      Reading a.least a.text.now l.reads l.tables l.at l.label l.count l.to
-  read = turn.loop-at.invariant.2
-
-pub returns-in-Refused : goal.returns-in-Refused
-returns-in-Refused c =
-    let k = c in
-    let m = (goal.at.returns-in-Refused c).In_default in
-    program-refused (read m) (asked m).loop-at-test.true _ _
-    (subst (Stepped _ _ _ _ _ _ _ _ _ _) k.in-Refused.is ((asked m).read_command-step.ensures _ _ (read m).tables.counts)) _
-    c.unread.ensures.judged-is
+pub returns-in_err-step : goal.returns-in_err-step
+returns-in_err-step c =
+    let k = (goal.at.returns-in_err-step c).After-read_command in
+    let p = err_from_is_err_and c.from_residual.result c.from_residual.ensures.1 in
+    program-refused (reading k) c.loop-walk-test.true _ _ (stepped k c.in_err-step.was) _ (rw (p.1, p.2) refl)
 
 pub returns-in_default : goal.returns-in_default
 returns-in_default c =
-    let m = (goal.at.returns-in_default c).In_default in
-    program-done (read m) (asked m).loop-at-test.true _ _ (opened m.in_default.in_default-own.keys2) (opened c.in_default-step.in_default-step-own.keys2)
-    ((asked m).read_command-step.ensures _ _ (read m).tables.counts) (turn m).loop-at.invariant.1
-
-pub loop-at-preserved-in-Signal : goal.loop-at-preserved-in-Signal
-loop-at-preserved-in-Signal c = let k = (goal.at.loop-at-preserved-in-Signal c).In-Adds in (
-  kept-size k ∙ (top k).loop-at.invariant.0,
-  (top k).loop-at.invariant.1,
-  signal-next (reading k) (inside k) (added k) c.in-Signal.is,
-)
-
-pub loop-at-preserved-in-Chain : goal.loop-at-preserved-in-Chain
-loop-at-preserved-in-Chain c = let k = (goal.at.loop-at-preserved-in-Chain c).In-Adds in (
-  kept-size k ∙ (top k).loop-at.invariant.0,
-  (top k).loop-at.invariant.1,
-  chain_next (reading k) (inside k) (added k) c.in-Chain.is,
-)
-
-pub loop-at-preserved-in-Cap : goal.loop-at-preserved-in-Cap
-loop-at-preserved-in-Cap c = let k = (goal.at.loop-at-preserved-in-Cap c).In-Adds in (
-  kept-size k ∙ (top k).loop-at.invariant.0,
-  (top k).loop-at.invariant.1,
-  cap-next (reading k) (inside k) (added k) c.in-Cap.is,
-)
-
-pub loop-at-preserved-in-Label : goal.loop-at-preserved-in-Label
-loop-at-preserved-in-Label c = let k = (goal.at.loop-at-preserved-in-Label c).In-Adds in (
-  kept-size k ∙ (top k).loop-at.invariant.0,
-  (top k).loop-at.invariant.1,
-  tag-next (reading k) (inside k) (added k) c.in-Label.is,
-)
-
-pub loop-at-preserved : goal.loop-at-preserved
-loop-at-preserved c = let k = (goal.at.loop-at-preserved c).In-Adds in (
-  kept-size k ∙ (top k).loop-at.invariant.0,
-  (top k).loop-at.invariant.1,
-  row_next (reading k) (inside k) (added k) c.in-Row.is,
-)
+    let k = (goal.at.returns-in_default c).After-read_command in
+    program-done (reading k) c.loop-walk-test.true _ (stepped k (c.in_ok-step.was ∙ ap Ok c.in_default.is))
 
 pub returns : goal.returns
-returns c =
-    let r = c in
-    program-ends r.loop-at.invariant.2 r.loop-at-test.false _ _
-    (c.unread-2.ensures.judged-is ∙ r.refuse.ensures)
-
-pub read_command-step-requires : goal.read_command-step-requires
-read_command-step-requires c = c.loop-at.invariant.2.room
-
-pub overflow_cast-tables : goal.overflow_cast-tables
-overflow_cast-tables c = omega (arith, place-small (goal.at.overflow_cast-tables c).In-Adds)
-
-pub offset_bounds-tables-signals : goal.offset_bounds-tables-signals
-offset_bounds-tables-signals c = omega (arith, (fits c).below)
-
-pub bounds-tables-signals : goal.bounds-tables-signals
-bounds-tables-signals c = omega (arith, (fits c).below)
-
-pub bounds-tables-signals-in-Signal : goal.bounds-tables-signals-in-Signal
-bounds-tables-signals-in-Signal c = omega (arith, (fits c).below)
-
-pub offset_bounds-tables-signals-in-Signal : goal.offset_bounds-tables-signals-in-Signal
-offset_bounds-tables-signals-in-Signal c = omega (arith, (fits c).below)
-
-pub bounds-tables-signals-in-Signal-2 : goal.bounds-tables-signals-in-Signal-2
-bounds-tables-signals-in-Signal-2 c = omega (arith, (fits c).below)
-
-pub offset_bounds-tables-signals-in-Signal-2 : goal.offset_bounds-tables-signals-in-Signal-2
-offset_bounds-tables-signals-in-Signal-2 c = omega (arith, (fits c).below)
-
-pub bounds-tables-signals-in-Signal-3 : goal.bounds-tables-signals-in-Signal-3
-bounds-tables-signals-in-Signal-3 c = omega (arith, (fits c).below)
-
-pub overflow_cast-tables-in-Signal : goal.overflow_cast-tables-in-Signal
-overflow_cast-tables-in-Signal c = omega (arith, (fits c).few)
-
-pub overflow_add-tables : goal.overflow_add-tables
-overflow_add-tables c = omega (arith, (fits c).below)
-
-pub offset_bounds-tables-signals-in-Signal-3 : goal.offset_bounds-tables-signals-in-Signal-3
-offset_bounds-tables-signals-in-Signal-3 c = omega (arith, (fits c).below)
-
-pub bounds-tables-signals-in-Signal-4 : goal.bounds-tables-signals-in-Signal-4
-bounds-tables-signals-in-Signal-4 c = omega (arith, (fits c).below)
-
-pub overflow_cast-tables-in-Signal-2 : goal.overflow_cast-tables-in-Signal-2
-overflow_cast-tables-in-Signal-2 c = omega (arith, (fits c).small)
-
-pub overflow_add-tables-in-Signal : goal.overflow_add-tables-in-Signal
-overflow_add-tables-in-Signal c = omega (arith, (fits c).below)
-
-pub offset_bounds-tables-signals-in-Signal-4 : goal.offset_bounds-tables-signals-in-Signal-4
-offset_bounds-tables-signals-in-Signal-4 c = omega (arith, (fits c).below)
-
-pub bounds-tables-signals-in-Signal-5 : goal.bounds-tables-signals-in-Signal-5
-bounds-tables-signals-in-Signal-5 c = omega (arith, (fits c).below)
-
-pub overflow_add-tables-in-Signal-2 : goal.overflow_add-tables-in-Signal-2
-overflow_add-tables-in-Signal-2 c = omega (arith, (fits c).below)
-
-pub loop-at-smaller-in-Signal : goal.loop-at-smaller-in-Signal
-loop-at-smaller-in-Signal c = forward (goal.at.loop-at-smaller-in-Signal c).In-Adds
-
-pub overflow_cast-tables-in-Chain : goal.overflow_cast-tables-in-Chain
-overflow_cast-tables-in-Chain c = omega (arith, chains-below c)
-
-pub offset_bounds-tables-chains : goal.offset_bounds-tables-chains
-offset_bounds-tables-chains c = omega (arith, chains-below c)
-
-pub bounds-tables-chains : goal.bounds-tables-chains
-bounds-tables-chains c = omega (arith, chains-below c)
-
-pub bounds-tables-chains-in-Chain : goal.bounds-tables-chains-in-Chain
-bounds-tables-chains-in-Chain c = omega (arith, chains-below c)
-
-pub overflow_add-tables-in-Chain : goal.overflow_add-tables-in-Chain
-overflow_add-tables-in-Chain c = omega (arith, chains-below c)
-
-pub loop-at-smaller-in-Chain : goal.loop-at-smaller-in-Chain
-loop-at-smaller-in-Chain c = forward (goal.at.loop-at-smaller-in-Chain c).In-Adds
-
-pub loop-at-smaller-in-Cap : goal.loop-at-smaller-in-Cap
-loop-at-smaller-in-Cap c = forward (goal.at.loop-at-smaller-in-Cap c).In-Adds
-
-pub loop-at-smaller-in-Label : goal.loop-at-smaller-in-Label
-loop-at-smaller-in-Label c = forward (goal.at.loop-at-smaller-in-Label c).In-Adds
-
-pub overflow_cast-tables-in-Row : goal.overflow_cast-tables-in-Row
-overflow_cast-tables-in-Row c = omega (arith, place-small (goal.at.overflow_cast-tables-in-Row c).In-Adds)
-
-pub offset_bounds-tables-rows : goal.offset_bounds-tables-rows
-offset_bounds-tables-rows c = omega (arith, rows-below c)
-
-pub bounds-tables-rows : goal.bounds-tables-rows
-bounds-tables-rows c = omega (arith, rows-below c)
-
-pub overflow_add-tables-in-Row : goal.overflow_add-tables-in-Row
-overflow_add-tables-in-Row c = omega (arith, rows-below c)
-
-pub loop-at-smaller : goal.loop-at-smaller
-loop-at-smaller c = forward (goal.at.loop-at-smaller c).In-Adds
+returns c = program-ends c.loop-walk.invariant.2 c.loop-walk-test.false _ _ c.refuse.ensures

@@ -4,8 +4,6 @@ use mathlib.Core.Bool.{true, false}
 use mathlib.Core.List.{List}
 use mathlib.Core.Path.{◌≡◌, sym, ◌∙◌}
 use native.Mathlib.Omega.{arith}
-use borrow.Author.Rules.{rules}
-use borrow.Author.Tests.{not-true, not-false}
 use Rattle.model.specs.Rules.Command.{is_signal}
 use Rattle.model.specs.Rules.Word.{byte_at}
 use Rattle.text_program.proofs.Parts.{tag-ends, tag-by}
@@ -27,16 +25,16 @@ module _ (c : After-is_signal) where
   told = rw width at c.is_signal.ensures
 
 pub returns-then-text-next : goal.returns-then-text-next
-returns-then-text-next c = c.refuse_step.ensures ∙ tag-ends _ _ _ _ _ _ (omega arith)
+returns-then-text-next c = c.refuse.ensures ∙ tag-ends _ _ _ _ _ _ (omega arith)
 
 pub returns-then-not-is_signal : goal.returns-then-not-is_signal
 returns-then-not-is_signal c =
-    let k = c in
-    c.refuse_step-then-not-is_signal.ensures ∙
-    tag-by (text (goal.at.returns-then-not-is_signal k).After-is_signal) (at (goal.at.returns-then-not-is_signal k).After-is_signal) _ _ _ _ false (omega arith) (sym (told (goal.at.returns-then-not-is_signal k).After-is_signal) ∙ c.if-not-is_signal.true)
+    let k = (goal.at.returns-then-not-is_signal c).After-is_signal in
+    c.refuse-then-not-is_signal.ensures ∙
+    tag-by (text k) (at k) _ _ _ _ false (omega arith) (sym (told k) ∙ c.if-not-is_signal.true)
 
 pub returns : goal.returns
 returns c =
-    let k = c in
-    rw (width (goal.at.returns k).After-is_signal) at c.adds.ensures ∙
-    tag-by (text (goal.at.returns k).After-is_signal) (at (goal.at.returns k).After-is_signal) _ _ _ _ true (omega arith) (sym (told (goal.at.returns k).After-is_signal) ∙ c.if-not-is_signal.false)
+    let k = (goal.at.returns c).After-is_signal in
+    rw (width k) at c.adds.ensures ∙
+    tag-by (text k) (at k) _ _ _ _ true (omega arith) (sym (told k) ∙ c.if-not-is_signal.false)

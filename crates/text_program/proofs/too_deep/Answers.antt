@@ -2,18 +2,20 @@
 use mathlib.Core.Path.{sym, ap, ◌∙◌}
 use Rattle.text_program.specs.Walks.{deep_of}
 use Rattle.basics.proofs.Judgements.{judgement-fine, judgement-refused}
-use borrow.Author.Rules.{rules}
+use Rattle.std.proofs.lemmas.Result.{err_from_is_err_and}
 use Rattle.text_program.proofs.too_deep.Goals as goal
 
-pub returns-in-Fine : goal.returns-in-Fine
+pub returns : goal.returns
 unfolding deep_of
-returns-in-Fine c =
-    c.refuse_walk.ensures ∙
+returns c =
+    c.refuse.ensures ∙
     sym (ap (deep_of _)
-    (judgement-fine _ _ c.operator_here-here.ensures c.in-Fine.is))
+    (judgement-fine _ _ c.operator_here.ensures c.in_ok-operator_here.was))
 
-pub returns-in-Refused : goal.returns-in-Refused
+pub returns-in_err-operator_here : goal.returns-in_err-operator_here
 unfolding deep_of
-returns-in-Refused c =
-    sym (ap (deep_of _)
-    (judgement-refused _ _ _ c.operator_here-here.ensures c.in-Refused.is))
+returns-in_err-operator_here c =
+    let p = err_from_is_err_and c.from_residual.result c.from_residual.ensures.1 in
+    rw (p.1, p.2)
+    (sym (ap (deep_of _)
+    (judgement-refused _ _ _ c.operator_here.ensures c.in_err-operator_here.was)))

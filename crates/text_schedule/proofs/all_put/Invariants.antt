@@ -14,6 +14,3 @@ use Rattle.text_schedule.proofs.all_put.Given as goal
 abbrev pub invariant-loop-x : goal.invariant-loop-x
 invariant-loop-x l =
     (l.x ≤ l.signals) × (l.signals ≤ 64) × ((y : ℕ) → y < l.x → not (eqb (get_or l.ranks y 0) 64) ≡ true)
-
-abbrev pub decreases-loop-x : goal.decreases-loop-x
-decreases-loop-x l = l.signals - l.x

@@ -1,4 +1,5 @@
 -- `text_schedule::check_schedule` meets its contract. Assumes nothing.
+use Rattle.std.specs.Prelude.{Ok, Err}
 use Prim.Native.Nat.{ℕ, ◌+◌, ◌*◌, ◌-◌, ◌≤◌, ◌<◌}
 use mathlib.Core.Bool.{false≢true}
 use mathlib.Core.List.{List}
@@ -7,12 +8,12 @@ use native.Mathlib.Omega.{arith}
 use lib.ListN.{length}
 use borrow.Author.Rules.{rules}
 use borrow.Author.Tests.{not-true, not-false}
+use Rattle.basics.proofs.Judgements.{handed-on, answers-gives, answers-accepted}
 use Rattle.model.specs.Rules.Outcome.{Parsed, accepted}
 use Rattle.model.specs.Rules.Program.{Program, count}
 use Rattle.model.specs.Rules.Schedule.{Put, is_put, parse_schedule, schedule_command_at}
 use Rattle.model.specs.declared.ScheduleCommand.TheVariants as ScheduleCommand
 use Rattle.text_program.specs.Tables.{PeriodsOf}
-use Rattle.basics.specs.declared.Judged.TheVariants as Judged
 use Rattle.text_schedule.specs.Slots.{all_ranked}
 use Rattle.text_schedule.specs.declared.Slots.{Slots}
 use Rattle.text_schedule.proofs.Endings.{not-put}
@@ -26,31 +27,28 @@ use Rattle.text_schedule.proofs.Puts.{
   placed-missing,
   placed-all,
   placed-slots,
-  scheduled-refused,
-  scheduled-fine,
 }
-use Rattle.text_schedule.proofs.check_schedule.Invariants.{slots_of}
 use borrow.Enum.Refused.{opened}
 use Rattle.text_schedule.proofs.check_schedule.Goals as goal
-use Rattle.text_schedule.proofs.check_schedule.Goals.{After-from_byte-x, After-judge_put-judged, At-loop-at, In-Put}
+use Rattle.text_schedule.proofs.check_schedule.Goals.{After-from_byte-x, After-judge_put, At-loop-at, In-Put}
 
 -- the PUT that is judged, and the tables before it
-module _ (c : After-judge_put-judged) where
+module _ (c : After-judge_put) where
   abbrev put-at : In-Put
-  put-at = (goal.at.After-judge_put-judged c).In-Put
+  put-at = (goal.at.After-judge_put c).In-Put
 
   abbrev top : At-loop-at
-  top = (goal.at.After-judge_put-judged c).At-loop-at
+  top = (goal.at.After-judge_put c).At-loop-at
 
   abbrev slots : Slots
-  slots = slots_of top.loop-at.order top.loop-at.phases top.loop-at.ranks top.loop-at.puts
+  slots = top.loop-at.slots
 
   is-put : schedule_command_at top.args.text.now top.loop-at.at ≡
       ScheduleCommand.Put put-at.in-Put.signal put-at.in-Put.phase
   is-put = sym put-at.schedule_command_at-command.ensures ∙ put-at.in-Put.is
 
-  declared : c.judge_put-judged.result ≡ Judged.Fine → put-at.in-Put.signal < 64
-  declared e = omega (arith, (c.judge_put-judged.ensures slots refl).declared e, top.loop-at.invariant.2)
+  declared : c.judge_put.result ≡ Ok tt → put-at.in-Put.signal < 64
+  declared e = omega (arith, (c.judge_put.ensures slots refl).declared e, top.loop-at.invariant.2)
 
 pub loop-at-init : goal.loop-at-init
 unfolding is_put
@@ -80,36 +78,36 @@ returns-in_default c =
     let q = next-put g.spelled (omega arith) in
     absurd (not-put _ q.signal q.phase (opened m.in_default.in_default-own.keys2) (m.schedule_command_at-command.ensures ∙ q.command))
 
-pub returns-in_default-judged : goal.returns-in_default-judged
-returns-in_default-judged c =
-    let told = c.in_default-judged.is in
-    let j = (goal.at.returns-in_default-judged c).After-judge_put-judged in
+pub returns-in_err-judge_put : goal.returns-in_err-judge_put
+returns-in_err-judge_put c =
+    let told = c.in_err-judge_put.was in
+    let j = (goal.at.returns-in_err-judge_put c).After-judge_put in
     let l = (top j).loop-at in
     λ p o n per e z.
     let g = l.invariant.4 p o n per e z in
     let few : length g.done < 64 = omega (arith, g.after.puts-are) in
-    scheduled-refused p _ _ _
+    answers-gives _ _ _ _
     (put_refused _ p o l.at _ _ (slots j) g (omega arith) (is-put j) _
-    (sym told ∙ (j.judge_put-judged.ensures (slots j) refl).judged p g.done n per g.after few))
-    (c.unplaced-in_default-judged.ensures ∙ told)
+    (sym told ∙ (j.judge_put.ensures (slots j) refl).judged p g.done n per g.after few))
+    (handed-on _ c.from_residual.ensures.1)
 
 -- the entries that the PUT is written to
 module _ (c : After-from_byte-x) where
-  abbrev judged-at : After-judge_put-judged
-  judged-at = (goal.at.After-from_byte-x c).After-judge_put-judged
+  abbrev judged-at : After-judge_put
+  judged-at = (goal.at.After-from_byte-x c).After-judge_put
 
   signal-low : c.from_byte-x.result < 64
-  signal-low = omega (arith, c.from_byte-x.ensures.0, declared judged-at c.in-Fine.is)
+  signal-low = omega (arith, c.from_byte-x.ensures.0, declared judged-at c.in_ok-judge_put.was)
 
-  puts-few : (top judged-at).loop-at.puts < 64
+  puts-few : (top judged-at).loop-at.slots.puts < 64
   puts-few = let l = judged-at in omega (arith, l.loop-at.invariant.0, l.loop-at.invariant.3)
 
 pub loop-at-preserved : goal.loop-at-preserved
 loop-at-preserved c =
     let w = (goal.at.loop-at-preserved c).After-from_byte-x in
-    let j = (goal.at.loop-at-preserved c).After-judge_put-judged in
+    let j = (goal.at.loop-at-preserved c).After-judge_put in
     let l = (top j).loop-at in
-    let told = w.in-Fine.is in (
+    let told = w.in_ok-judge_put.was in (
       omega arith,
       omega arith,
       l.invariant.2,
@@ -119,7 +117,7 @@ loop-at-preserved c =
           let few : length g.done < 64 = omega (arith, g.after.puts-are, puts-few w) in
           rw (c.in_schedule-at.ensures, w.from_byte-x.ensures.0)
           (put-fine _ p o l.at _ _ (slots j) g (omega arith) (is-put j) (declared j told) few
-          (sym told ∙ (j.judge_put-judged.ensures (slots j) refl).judged p g.done n per g.after few)),
+          (sym told ∙ (j.judge_put.ensures (slots j) refl).judged p g.done n per g.after few)),
     )
 
 pub returns-then-not-all_put : goal.returns-then-not-all_put
@@ -133,10 +131,10 @@ returns-then-not-all_put c =
     let fit : length g.done ≤ 64 = omega (arith, g.after.puts-are) in
     let missing = ap (all_ranked _) n ∙ sym a.all_put.ensures ∙
     c.if-not-all_put.true in
-    scheduled-refused p _ _ _
-    (placed-missing _ p o l.at (slots_of l.order l.phases l.ranks l.puts) g past few fit missing)
-    (c.unplaced-then-not-all_put.ensures ∙ c.refuse.ensures ∙
-    ap (λ x. Judged.Refused (record { number = 12; place = x })) (sym z))
+    answers-gives _ _ _ _
+    (placed-missing _ p o l.at l.slots g past few fit missing)
+    (c.refuse.ensures ∙
+    ap (λ x. Err (record { number = 12; place = x })) (sym z))
 
 pub returns : goal.returns
 returns c =
@@ -148,20 +146,20 @@ returns c =
     let few : count p ≤ 64 = omega arith in
     let fit : length g.done ≤ 64 = omega (arith, g.after.puts-are) in
     let all = ap (all_ranked _) n ∙ sym a.all_put.ensures ∙ c.if-not-all_put.false in
-    let t = slots_of l.order l.phases l.ranks l.puts in
-    scheduled-fine p _ _ _ (placed-all _ p o l.at t g past few fit all) refl
+    let t = l.slots in
+    answers-accepted _ _ _ _ _ (placed-all _ p o l.at t g past few fit all) refl
     (placed-slots _ p o l.at t g past few fit all)
 
-pub overflow_cast-ranks : goal.overflow_cast-ranks
-overflow_cast-ranks c = omega (arith, puts-few c)
+pub overflow_cast-slots : goal.overflow_cast-slots
+overflow_cast-slots c = omega (arith, puts-few c)
 
-pub overflow_add-puts : goal.overflow_add-puts
-overflow_add-puts c = omega (arith, puts-few c)
+pub overflow_add-slots : goal.overflow_add-slots
+overflow_add-slots c = omega (arith, puts-few c)
 
-pub bounds-phases-x : goal.bounds-phases-x
-bounds-phases-x c =
-    omega (arith, declared (goal.at.bounds-phases-x c).After-judge_put-judged c.in-Fine.is, c.from_byte-x.ensures.0)
+pub bounds-slots-x : goal.bounds-slots-x
+bounds-slots-x c =
+    omega (arith, declared (goal.at.bounds-slots-x c).After-judge_put c.in_ok-judge_put.was, c.from_byte-x.ensures.0)
 
-pub bounds-ranks-x : goal.bounds-ranks-x
-bounds-ranks-x c =
-    omega (arith, declared (goal.at.bounds-ranks-x c).After-judge_put-judged c.in-Fine.is, c.from_byte-x.ensures.0)
+pub bounds-slots-x-in-loop-at : goal.bounds-slots-x-in-loop-at
+bounds-slots-x-in-loop-at c =
+    omega (arith, declared (goal.at.bounds-slots-x-in-loop-at c).After-judge_put c.in_ok-judge_put.was, c.from_byte-x.ensures.0)

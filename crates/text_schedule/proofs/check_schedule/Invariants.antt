@@ -1,4 +1,5 @@
 -- `text_schedule::check_schedule` meets its contract. Assumes nothing.
+use Rattle.std.specs.Prelude.{Ok}
 use Prim.Native.Nat.{ℕ, ◌+◌, ◌*◌, ◌-◌, ◌≤◌, ◌<◌}
 use mathlib.Core.Bool.{false≢true}
 use mathlib.Core.List.{List}
@@ -12,7 +13,6 @@ use Rattle.model.specs.Rules.Program.{Program, count}
 use Rattle.model.specs.Rules.Schedule.{Put, is_put, parse_schedule, schedule_command_at}
 use Rattle.model.specs.declared.ScheduleCommand.TheVariants as ScheduleCommand
 use Rattle.text_program.specs.Tables.{PeriodsOf}
-use Rattle.basics.specs.declared.Judged.TheVariants as Judged
 use Rattle.text_schedule.specs.Slots.{all_ranked}
 use Rattle.text_schedule.specs.declared.Slots.{Slots}
 use Rattle.text_schedule.proofs.Endings.{not-put}
@@ -26,19 +26,14 @@ use Rattle.text_schedule.proofs.Puts.{
   placed-missing,
   placed-all,
   placed-slots,
-  scheduled-refused,
-  scheduled-fine,
 }
 use Rattle.text_schedule.proofs.check_schedule.Given as goal
 
-abbrev pub slots_of : List ℕ → List ℕ → List ℕ → ℕ → Slots
-slots_of order phases ranks puts = record { judged = Judged.Fine; puts = puts; order = order; phases = phases; ranks = ranks }
-
 abbrev pub invariant-loop-at : goal.invariant-loop-at
 invariant-loop-at l =
-    (l.at ≡ 3 * l.puts) × (l.at ≤ l.end + 2) × (l.signals ≤ 64) × (l.end ≤ 192) ×
+    (l.at ≡ 3 * l.slots.puts) × (l.at ≤ l.end + 2) × (l.signals ≤ 64) × (l.end ≤ 192) ×
     ((p : Program) (o : Parsed (List Put)) → count p ≡ l.signals → PeriodsOf p l.periods → parse_schedule l.text ≡ accepted o →
-    o.next ≡ l.end → Progress l.text p o l.at (slots_of l.order l.phases l.ranks l.puts))
+    o.next ≡ l.end → Progress l.text p o l.at l.slots)
 
 abbrev pub decreases-loop-at : goal.decreases-loop-at
 decreases-loop-at l = l.end - l.at

@@ -8,10 +8,12 @@ use lib.ListN.{length}
 use borrow.Author.Rules.{rules}
 use Rattle.model.specs.Rules.Schedule.{Put, parse_puts, parse_schedule}
 use Rattle.model.proofs.Texts.Puts.{put-sound}
-use Rattle.text_schedule.proofs.Endings.{puts-stop, puts-past, puts-more}
+use Rattle.basics.proofs.Judgements.{handed-on, answers-ok, answers-refused, answers-gives, answers-accepted}
+use Rattle.text_schedule.specs.Slots.{end_judged}
+use Rattle.text_schedule.proofs.Endings.{EndsAt, puts-stop, puts-past, puts-more}
 use borrow.Enum.Refused.{opened}
 use Rattle.text_schedule.proofs.read_schedule.Goals as goal
-use Rattle.text_schedule.proofs.read_schedule.Goals.{In-Put}
+use Rattle.text_schedule.proofs.read_schedule.Goals.{In-Put, In_default}
 
 one_less : (n : ℕ) → 0 < n → n ≡ suc (n - 1)
 one_less n h = omega arith
@@ -25,16 +27,24 @@ pub loop-at-init : goal.loop-at-init
 unfolding parse_schedule
 loop-at-init c = ([], length c.args.text.now, omega arith, refl)
 
+-- how the reading ends at a command that is no PUT
+ended : (c : In_default) → let at = c.loop-at.at in
+    EndsAt (parse_schedule c.args.text.now) at (end_judged c.args.text.now at c.schedule_command_at-command.result)
+ended c =
+    let i = c.loop-at.invariant in
+    rw (i.3 ∙ ap (λ m. parse_puts m c.args.text.now c.loop-at.at i.0) (one_less i.1 (omega (arith, c.loop-at-test.true))))
+    (puts-stop c.args.text.now c.loop-at.at (i.1 - 1) i.0 _ (opened c.in_default.in_default-own.keys2)
+    (sym c.schedule_command_at-command.ensures))
+
+pub returns-in_err-judge_end : goal.returns-in_err-judge_end
+returns-in_err-judge_end c =
+    answers-gives _ _ _ _ (answers-refused _ _ _ _ (ended (goal.at.returns-in_err-judge_end c).In_default)
+    (sym c.judge_end.ensures ∙ c.in_err-judge_end.was)) (handed-on _ c.from_residual.ensures.1)
+
 pub returns-in_default : goal.returns-in_default
 returns-in_default c =
-    let c4 = c in
-    let c6 = c in
-    let l = c4.loop-at in
-    let i = l.invariant in
-    let text = c6.args.text.now in
-    rw (c.judge_end.ensures, i.3 ∙ ap (λ m. parse_puts m text l.at i.0) (one_less i.1 (omega arith)))
-    (puts-stop text l.at (i.1 - 1) i.0 _ (opened c.in_default.in_default-own.keys2)
-    (sym c.schedule_command_at-command.ensures))
+    let o = answers-ok _ _ _ _ (ended (goal.at.returns-in_default c).In_default) (sym c.judge_end.ensures ∙ c.in_ok-judge_end.was) in
+    answers-accepted _ _ _ _ _ o.1 refl o.2
 
 pub loop-at-preserved : goal.loop-at-preserved
 loop-at-preserved c =

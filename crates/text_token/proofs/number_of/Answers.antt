@@ -1,6 +1,5 @@
 -- `text_token::number_of` meets its contract. Assumes nothing.
 use mathlib.Core.Path.{sym, ap, ◌∙◌}
-use borrow.Author.Rules.{rules}
 use Rattle.text_token.specs.Scanning.{held_number}
 use Rattle.text_token.proofs.Scans.{number-none, number-zero, number_digits}
 use Rattle.text_token.proofs.number_of.Goals as goal

@@ -15,24 +15,8 @@ returns-then-next-text c =
     rw (c.in-End.is, lt-leb (length a.text.now) (a.at + 1) (omega arith))
     (ap ruled_of (rw c.in_script.ensures at c.refuse-then-next-text.ensures))
 
-pub returns-in-EndsEarly : goal.returns-in-EndsEarly
-unfolding ending_at
-returns-in-EndsEarly c = rw c.in-EndsEarly.is (ap ruled_of c.refuse.ensures)
-
-pub returns-in-Unknown : goal.returns-in-Unknown
-unfolding ending_at
-returns-in-Unknown c = rw c.in-Unknown.is (ap ruled_of c.refuse-in-Unknown.ensures)
-
 pub returns-else-next-text : goal.returns-else-next-text
 unfolding ending_at provided
 returns-else-next-text c =
     let a = c.args in
     rw (c.in-End.is, le-leb (length a.text.now) (a.at + 1) (omega arith))
-
-pub returns-in-Set : goal.returns-in-Set
-unfolding ending_at
-returns-in-Set c = rw c.in-Set.is
-
-pub returns-in-Run : goal.returns-in-Run
-unfolding ending_at
-returns-in-Run c = rw c.in-Run.is

@@ -12,9 +12,6 @@ use Rattle.trial_script.proofs.mark_inputs.Goals as goal
 pub bounds-image-1 : goal.bounds-image-1
 bounds-image-1 c = omega (arith, (head _ (formed _ c.requires).good).four)
 
-pub overflow_add-x : goal.overflow_add-x
-overflow_add-x c = record { fits = omega (arith, (c.shared_slice_known-1.given 1).fits) }
-
 pub loop-x-preserved : goal.loop-x-preserved
 loop-x-preserved c =
     let l = c in

@@ -11,7 +11,7 @@ use Rattle.trial_step.proofs.Fills.{fill-line, fill-ended, fill-full}
 use Rattle.trial_step.proofs.Left.{is-lined, is-ended}
 use Rattle.trial_step.proofs.Filling.{filling-none, filling-all, filling-more}
 use Rattle.trial_step.proofs.next_block.Goals as goal
-use Rattle.trial_step.proofs.next_block.Goals.{After-block-1, After-next_line-next, At-loop-block, In-Line}
+use Rattle.trial_step.proofs.next_block.Goals.{After-block-1, After-next_line-next, At-loop-block, In-Some}
 
 abbrev turn : After-next_line-next → At-loop-block
 turn n = (goal.at.After-next_line-next n).At-loop-block
@@ -109,18 +109,18 @@ returns-in_default c =
     }
 
 -- the line of this turn
-abbrev at-step : In-Line → After-next_line-next
-at-step c = (goal.at.In-Line c).After-next_line-next
+abbrev at-step : In-Some → After-next_line-next
+at-step c = (goal.at.In-Some c).After-next_line-next
 
-this : (c : In-Line) →
-    let n = (goal.at.In-Line c).After-next_line-next in
+this : (c : In-Some) →
+    let n = (goal.at.In-Some c).After-next_line-next in
     let a = c.args in
     let line = n.next_line-next.new in
     Lined a.image.now a.text.now c.loop-block.reached c.loop-block.samples c.loop-block.state line.samples line.state
     line.line
-    c.in-Line.length c.in-Line.after
+    c.in-Some.length c.in-Some.after
 this c =
-    is-lined c.in-Line.length c.in-Line.after c.in-Line.is (at-step c).next_line-next.ensures.steps
+    is-lined c.in-Some.length c.in-Some.after c.in-Some.is (at-step c).next_line-next.ensures.steps
 
 pub overflow_add-size : goal.overflow_add-size
 overflow_add-size c =
@@ -134,7 +134,7 @@ loop-block-preserved c =
     let more =
     fill-line c.args.image.now c.args.text.now c.loop-block.reached c.loop-block.samples c.loop-block.state c.loop-block.block
     c.loop-block.size e.0 e.1 c.loop-block.invariant.0.fits n.loop-block-test.true
-    (subst (Stepped _ line.samples line.state line.line) c.in-Line.is (stepped n)) in
+    (subst (Stepped _ line.samples line.state line.line) c.in-Some.is (stepped n)) in
     let same = block_same (goal.at.loop-block-preserved c).After-block-1 in (
       filling-more (post_of c.loop-block.size (length c.loop-block.block - c.loop-block.size) c.loop-block.block)
           c.loop-block.invariant.0 (this c)
@@ -143,8 +143,8 @@ loop-block-preserved c =
         more.0,
         omega (arith, more.1, same),
         e.2 ∙ more.2 ∙
-            ap (λ b. fill_from more.0 c.args.image.now c.args.text.now c.in-Line.after line.samples line.state b
-            (c.loop-block.size + c.in-Line.length))
+            ap (λ b. fill_from more.0 c.args.image.now c.args.text.now c.in-Some.after line.samples line.state b
+            (c.loop-block.size + c.in-Some.length))
             (sym (left c.loop-block.block line.line c.loop-block.size c.loop-block.invariant.0.fits)),
       ),
     )

@@ -1,7 +1,7 @@
 -- `trial_step::seek` meets its contract. Assumes nothing.
+use Rattle.std.specs.Prelude.{None}
 use Rattle.trial_step.proofs.Left.{seek-step, left-some, left-none}
 use Rattle.trial_step.specs.Underway.{calls_left, nothing_sought, cycle_sought, seek_from, seek_of}
-use Rattle.trial_step.specs.declared.Sought.TheVariants as Sought
 use Rattle.trial_step.proofs.Seeks.{seek-none, seek-past, seek-cycle, seek-on}
 use Rattle.trial_script.proofs.Walk.{inside, actions-past, actions-here, calls-none}
 use Rattle.trial_script.specs.Script.{action_width, cycles_made, altered}
@@ -38,7 +38,7 @@ sought l = l.loop-at.invariant.2
 
 ends : (l : At-loop-at) → let a = l.args in
     seek_from (sought l).0 a.text.now l.loop-at.at l.loop-at.samples ≡ nothing_sought l.loop-at.samples →
-    (Sought.Nothing ≡ (seek_of a.text.now a.from a.samples.now).sought) ×
+    (None ≡ (seek_of a.text.now a.from a.samples.now).sought) ×
     (l.loop-at.samples ≡ (seek_of a.text.now a.from a.samples.now).samples)
 ends l e =
     let is = (sought l).2 ∙ e in (sym (ap (λ s. s.sought) is), sym (ap (λ s. s.samples) is))

@@ -1,4 +1,3 @@
-use borrow.Author.Rules.{rules}
 use Rattle.model.specs.Rules.Word.{add_word, sub_word, mul_word, less_word, same_word, min_word, max_word}
 use Rattle.word.proofs.Locals.{of_two}
 use Rattle.word.proofs.binary.Goals as goal

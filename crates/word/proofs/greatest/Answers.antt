@@ -1,12 +1,10 @@
+-- `word::greatest` meets its contract. Assumes nothing.
+use mathlib.Core.Path.{ap₂, ◌∙◌}
 use mir.Facts.{to_z-of_z}
-use Rattle.model.specs.Rules.Word.{max_word}
-use Rattle.word.proofs.Locals.{test}
+use Rattle.std.specs.Int.{int_max}
+use Rattle.word.proofs.Locals.{kept, greatest_of}
 use Rattle.word.proofs.greatest.Goals as goal
 
-pub returns-then-a-b : goal.returns-then-a-b
-unfolding max_word
-returns-then-a-b c = rw (to_z-of_z c.ranges.b, test c.ranges.a c.ranges.b c.if-a-b.true)
-
-pub returns-else-a-b : goal.returns-else-a-b
-unfolding max_word
-returns-else-a-b c = rw (to_z-of_z c.ranges.a, test c.ranges.a c.ranges.b c.if-a-b.false)
+pub returns : goal.returns
+returns c =
+    kept _ c.max.type_inv ∙ c.max.ensures.value ∙ ap₂ int_max (to_z-of_z c.ranges.a) (to_z-of_z c.ranges.b) ∙ greatest_of _ _

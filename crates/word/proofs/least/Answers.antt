@@ -1,12 +1,9 @@
+-- `word::least` meets its contract. Assumes nothing.
+use mathlib.Core.Path.{ap₂, ◌∙◌}
 use mir.Facts.{to_z-of_z}
-use Rattle.model.specs.Rules.Word.{min_word}
-use Rattle.word.proofs.Locals.{test}
+use Rattle.std.specs.Int.{int_min}
+use Rattle.word.proofs.Locals.{kept, least_of}
 use Rattle.word.proofs.least.Goals as goal
 
-pub returns-then-a-b : goal.returns-then-a-b
-unfolding min_word
-returns-then-a-b c = rw (to_z-of_z c.ranges.a, test c.ranges.a c.ranges.b c.if-a-b.true)
-
-pub returns-else-a-b : goal.returns-else-a-b
-unfolding min_word
-returns-else-a-b c = rw (to_z-of_z c.ranges.b, test c.ranges.a c.ranges.b c.if-a-b.false)
+pub returns : goal.returns
+returns c = kept _ c.min.type_inv ∙ c.min.ensures.value ∙ ap₂ int_min (to_z-of_z c.ranges.a) (to_z-of_z c.ranges.b) ∙ least_of _ _

@@ -1,12 +1,10 @@
-use Rattle.model.specs.Rules.Word.{less_word, bit_word}
-use Rattle.word.proofs.Locals.{test}
-use mathlib.Core.Path.{sym, ap}
+-- `word::less` meets its contract. Assumes nothing.
+use mathlib.Core.Path.{◌∙◌}
+use mir.Facts.{to_z-of_z}
+use Rattle.model.specs.Rules.Word.{less_word}
+use Rattle.word.proofs.Locals.{kept, bit_of}
 use Rattle.word.proofs.less.Goals as goal
 
-pub returns-then-a-b : goal.returns-then-a-b
+pub returns : goal.returns
 unfolding less_word
-returns-then-a-b c = sym (ap bit_word (test c.ranges.a c.ranges.b c.if-a-b.true))
-
-pub returns-else-a-b : goal.returns-else-a-b
-unfolding less_word
-returns-else-a-b c = sym (ap bit_word (test c.ranges.a c.ranges.b c.if-a-b.false))
+returns c = simp (to_z-of_z c.ranges.a, to_z-of_z c.ranges.b) at (kept _ c.from.type_inv ∙ c.from.ensures ∙ bit_of _)

@@ -1,12 +1,9 @@
-use mathlib.Core.Path.{sym, ap}
+-- `word::same` meets its contract. Assumes nothing.
+use mathlib.Core.Path.{ap, ◌∙◌}
 use Rattle.model.specs.Rules.Word.{same_word, bit_word}
-use Rattle.word.proofs.Locals.{test-same, test-other}
+use Rattle.word.proofs.Locals.{kept, bit_of, eq_bits}
 use Rattle.word.proofs.same.Goals as goal
 
-pub returns-then-a-b : goal.returns-then-a-b
+pub returns : goal.returns
 unfolding same_word
-returns-then-a-b c = sym (ap bit_word (test-same c.ranges.a c.ranges.b c.if-a-b.true))
-
-pub returns-else-a-b : goal.returns-else-a-b
-unfolding same_word
-returns-else-a-b c = sym (ap bit_word (test-other c.args.a c.args.b c.if-a-b.false))
+returns c = kept _ c.from.type_inv ∙ c.from.ensures ∙ bit_of _ ∙ ap bit_word (eq_bits c.ranges.a c.ranges.b)

@@ -1,4 +1,3 @@
-use borrow.Author.Rules.{rules}
 use mathlib.Core.Path.{ap, ◌∙◌}
 use Rattle.model.specs.Rules.Word.{word_of, word_at}
 use Rattle.word.proofs.Locals.{kept}

@@ -1,2 +1,0 @@
--- What the search for the hypercycle stands on.
-pub mod Hypercycle

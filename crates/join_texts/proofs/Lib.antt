@@ -1,0 +1,2 @@
+-- What texts that are lent keep.
+pub mod Lent

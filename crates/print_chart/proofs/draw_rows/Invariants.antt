@@ -1,5 +1,0 @@
-use Rattle.std.proofs.Common.{◌-◌}
-use Rattle.print_chart.proofs.draw_rows.Given as goal
-
-abbrev pub decreases-loop-x : goal.decreases-loop-x
-decreases-loop-x l = l.signals - l.x

@@ -1,8 +1,0 @@
-use Rattle.std.proofs.Common.{◌≤◌, ◌-◌}
-use Rattle.print_chart.proofs.highest.Given as goal
-
-abbrev pub invariant-loop-c : goal.invariant-loop-c
-invariant-loop-c l = 1 ≤ l.most
-
-abbrev pub decreases-loop-c : goal.decreases-loop-c
-decreases-loop-c l = 240 - l.c
