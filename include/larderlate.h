@@ -17,9 +17,8 @@
  *
  * Every call takes any bytes and words, ends, and does its job or refuses. A refused call changes nothing that was lent to it.
  * The calls keep nothing between them and need no memory but their stack, so any number may run at once on different state. Of the
- * stack, measured on x86-64 with 64 signals, 16 chains, 32 rows and expressions 16 deep (bench/stack, on what the former kit built),
- * a join takes 24 KB, a list of moves 23 KB, a compile or a report 19 KB, marks 18 KB, a conversion 14 KB, each other call less than
- * 1 KB.
+ * stack, measured on x86-64 with 64 signals, 16 chains, 32 rows and expressions 16 deep (bench/stack), a join takes 22 KB, a list of
+ * moves 19 KB, a compile 15 KB, a report 14 KB, marks 13 KB, a conversion 12 KB, each other call less than 1 KB.
  *
  * AN IMAGE has L bytes, and bytes 2-3 hold L, low byte first. After them stands its tail, four bytes for each of its N signals: label
  * (2 bytes, low byte first), period, phase. Compile and join always write both. Reset, cycle and tail take an image at exactly L

@@ -6,7 +6,7 @@ ghost use Rattle.model.specs.Rules.Compile.{short_enough, pair_of};
 ghost use Rattle.model.specs.Rules.Outcome.{yielded_of};
 ghost use Rattle.model.specs.Rules.Program.{Program, count};
 ghost use Rattle.basics.specs.Judgement.{judgement_of};
-ghost use Rattle.text_program.specs.Tables.{PeriodsOf, Stands, Standing};
+ghost use Rattle.text_program.specs.Tables.{PeriodsOf, Stands, Standing, Unread, filled};
 ghost use Rattle.text_schedule.specs.Slots.{ScheduledAs};
 ghost use Rattle.check_pair.specs.Checked.{CheckedWith, CheckedAs, Spacious};
 ghost use Rattle.check_pair.specs.Groups.{rates_of, schedule_for};
@@ -32,14 +32,14 @@ pub fn check_lengths(program: &[u8], schedule: &[u8]) -> Result<(), Fault>
 }
 
 // A program that is read: 7 to 10, then 29 and 30. Answers its hypercycle.
-fn check_program(text: &[u8], reads: &[u16], tables: Tables) -> Result<usize, Fault>
-    requires { Standing text.now reads.now tables }
-    ensures { (p : Program) → Stands text.now reads.now tables p → yielded_of result ≡ rates_of p }
+fn check_program(text: &[u8], reads: &[u16], tables: &Tables) -> Result<usize, Fault>
+    requires { Standing text.now reads.now tables.now }
+    ensures { (p : Program) → Stands text.now reads.now tables.now p → yielded_of result ≡ rates_of p }
 {
-    check_rates::check_rates(text, reads, tables)?; // 7, 8
+    check_rates::check_rates(text, reads, *tables)?; // 7, 8
     let hypercycle = check_hypercycle::check_hypercycle(tables.signals, &tables.periods)?; // 9
-    check_links::check_links(text, reads, tables)?; // 10
-    check_table::check_table(text, tables)?; // 29, 30
+    check_links::check_links(text, reads, *tables)?; // 10
+    check_table::check_table(text, *tables)?; // 29, 30
     Ok(hypercycle)
 }
 
@@ -54,24 +54,38 @@ fn check_puts(schedule: &[u8], signals: usize, periods: &[u8; 64]) -> Result<Slo
 }
 
 // All checks of a program and a schedule, with a table for the offsets of the reads: an entry for each two bytes of a program
-// that passes 1. The table is of use where all is fine.
+// that passes 1. Fills new tables, which are lent, for they are too large to be handed out through every `?`. All of these are of
+// use where all is fine.
+pub fn check_tables(
+    program: &[u8],
+    schedule: &[u8],
+    reads: &mut [u16],
+    pair: &mut PairTables,
+) -> Result<(), Fault>
+    requires { Spacious (length program.now) (length reads.old) × Unread pair.old.tables }
+    ensures { CheckedWith program.now reads.new
+        (pair_of program.now schedule.now) (filled pair.new result) }
+{
+    check_lengths(program, schedule)?; // 1
+    text_program::read_tables(LEAST_FACTOR, program, reads, &mut pair.tables)?; // 2 to 6
+    let hypercycle = check_program(program, reads, &pair.tables)?; // 7 to 10, 29, 30
+    let slots = check_puts(schedule, pair.tables.signals, &pair.tables.periods)?; // 11 to 13
+    pair.slots = slots;
+    pair.hypercycle = hypercycle;
+    check_reads::check_reads(program, reads, pair)?; // 14
+    check_load::check_load(pair)?; // 15
+    check_latency::check_latency(program, reads, pair)?; // 16
+    Ok(())
+}
+
+// The same, the tables handed out.
 pub fn check_with(program: &[u8], schedule: &[u8], reads: &mut [u16]) -> Result<PairTables, Fault>
     requires { Spacious (length program.now) (length reads.old) }
     ensures { CheckedWith program.now reads.new
         (pair_of program.now schedule.now) result }
 {
-    check_lengths(program, schedule)?; // 1
-    let tables = text_program::read_program(LEAST_FACTOR, program, reads)?; // 2 to 6
-    let hypercycle = check_program(program, reads, tables)?; // 7 to 10, 29, 30
-    let slots = check_puts(schedule, tables.signals, &tables.periods)?; // 11 to 13
-    let pair = PairTables {
-        tables,
-        slots,
-        hypercycle,
-    };
-    check_reads::check_reads(program, reads, &pair)?; // 14
-    check_load::check_load(&pair)?; // 15
-    check_latency::check_latency(program, reads, &pair)?; // 16
+    let mut pair = PairTables::new();
+    check_tables(program, schedule, reads, &mut pair)?;
     Ok(pair)
 }
 

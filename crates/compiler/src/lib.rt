@@ -9,6 +9,7 @@ ghost use Rattle.model.specs.declared.Fault.{Fault};
 ghost use Rattle.check_pair.specs.Checked.{Spacious};
 
 use model::{Fault, Refusal};
+use text_schedule::PairTables;
 
 // The image of a program and a schedule, with a table for the offsets of the reads.
 fn compile_with(
@@ -22,13 +23,14 @@ fn compile_with(
         (compile_of program.now schedule.now image.old)
         (yielded_of result) image.new }
 {
-    let pair = check_pair::check_with(program, schedule, reads)?;
-    let layout = image_write::lay_out(pair);
+    let mut pair = PairTables::new();
+    check_pair::check_tables(program, schedule, reads, &mut pair)?;
+    let layout = image_write::lay_out(&pair);
     let written = layout.written;
     if image.len() < written {
         return basics::refuse(Refusal::ImageBufferShort, written);
     }
-    image_write::emit(program, pair, layout, &mut image[..]);
+    image_write::emit(program, &pair, layout, &mut image[..]);
     Ok(written)
 }
 

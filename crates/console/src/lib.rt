@@ -49,7 +49,7 @@ pub fn say_failure(rt: &HostRuntime, name: &[u8], error: &io::Error) -> io::Resu
 }
 
 // A file that failed is named on standard error, with the reason; on standard output a script sees that it failed.
-fn fail<T>(rt: &HostRuntime, name: &[u8], error: &io::Error) -> Result<T, Stop> {
+pub fn fail<T>(rt: &HostRuntime, name: &[u8], error: &io::Error) -> Result<T, Stop> {
     say_failure(rt, name, error)?;
     println!(rt; "failed")?;
     Err(Stop::Said)

@@ -12,6 +12,7 @@ ghost use Rattle.dependents.specs.Marks.{is_marked, MarksBy, ReadsDeclared};
 
 use model::{Fault, Refusal};
 use text_program::Tables;
+use text_schedule::PairTables;
 
 // Whether signal x of a program that is read is an IN.
 fn is_input(text: &[u8], tables: Tables, x: usize) -> bool
@@ -116,8 +117,10 @@ fn dependents_with(
         (dependents_of program.now schedule.now input marks.old)
         (ran_of result) marks.new }
 {
-    let tables = check_pair::check_with(program, schedule, reads)?.tables;
-    if !is_input(program, tables, input) {
+    let mut pair = PairTables::new();
+    check_pair::check_tables(program, schedule, reads, &mut pair)?;
+    let tables = &pair.tables;
+    if !is_input(program, *tables, input) {
         return basics::refuse(Refusal::NoInput, 0);
     }
     *marks = mark_all(program, reads, &tables.firsts, tables.signals, input);

@@ -5,29 +5,30 @@ use console::Stop;
 use model::{Fault, Refusal};
 use std::{fmt, io};
 
-// A refusal, printed as what it means.
+// The number of a refusal, printed as what it means.
 #[derive(Clone, Copy)]
-struct Meaning(Refusal);
+struct Meaning(u8);
 
 impl fmt::Display for Meaning {
     fn fmt<W: fmt::Write>(&self, f: &mut fmt::Formatter<W>) -> fmt::Result {
-        f.write_str(match self.0 as u8 {
-            0..=6 => reading(self.0),
-            7..=16 => check(self.0),
-            17..=39 => call(self.0),
-            _ => form(self.0),
+        let refusal = Refusal::try_from(self.0);
+        f.write_str(match self.0 {
+            0..=6 => reading(refusal),
+            7..=16 => check(refusal),
+            17..=39 => call(refusal),
+            _ => form(refusal),
         })
     }
 }
 
 // 1 to 6: how a program text is read.
-fn reading(refusal: Refusal) -> &'static str {
+fn reading(refusal: Result<Refusal, ()>) -> &'static str {
     match refusal {
-        Refusal::TextTooLong => "a text is too long",
-        Refusal::ProgramEndsEarly => "the program ends early",
-        Refusal::NoSuchCommand => "no such command here",
-        Refusal::OverABound => "too many signals, chains, rows or links, or nested too deep",
-        Refusal::OperandOutOfRange => {
+        Ok(Refusal::TextTooLong) => "a text is too long",
+        Ok(Refusal::ProgramEndsEarly) => "the program ends early",
+        Ok(Refusal::NoSuchCommand) => "no such command here",
+        Ok(Refusal::OverABound) => "too many signals, chains, rows or links, or nested too deep",
+        Ok(Refusal::OperandOutOfRange) => {
             "an operand outside its range, a second CAP, or a chain under 2 links"
         }
         _ => "bytes after END",
@@ -35,35 +36,36 @@ fn reading(refusal: Refusal) -> &'static str {
 }
 
 // 7 to 16: the checks of a pair.
-fn check(refusal: Refusal) -> &'static str {
+fn check(refusal: Result<Refusal, ()>) -> &'static str {
     match refusal {
-        Refusal::UndeclaredSignal => "an undeclared signal",
-        Refusal::PeriodRuleBroken => "a period rule is broken",
-        Refusal::HypercycleTooLong => "the hypercycle is over 240",
-        Refusal::LinkNotReadOnce => "a link without exactly one read of the one before",
-        Refusal::ScheduleText => {
+        Ok(Refusal::UndeclaredSignal) => "an undeclared signal",
+        Ok(Refusal::PeriodRuleBroken) => "a period rule is broken",
+        Ok(Refusal::HypercycleTooLong) => "the hypercycle is over 240",
+        Ok(Refusal::LinkNotReadOnce) => "a link without exactly one read of the one before",
+        Ok(Refusal::ScheduleText) => {
             "the schedule ends early, has an unknown command, or bytes after END"
         }
-        Refusal::SignalNotOnce => "a signal is put twice, is undeclared, or is missing",
-        Refusal::Phase => "a phase that is not below its period",
-        Refusal::ReadUnmet => "a read is not met",
-        Refusal::OverCap => "a cycle is over CAP",
+        Ok(Refusal::SignalNotOnce) => "a signal is put twice, is undeclared, or is missing",
+        Ok(Refusal::Phase) => "a phase that is not below its period",
+        Ok(Refusal::ReadUnmet) => "a read is not met",
+        Ok(Refusal::OverCap) => "a cycle is over CAP",
         _ => "a chain is too late",
     }
 }
 
 // 17 to 31: images, scripts, rows and joins.
-fn call(refusal: Refusal) -> &'static str {
+fn call(refusal: Result<Refusal, ()>) -> &'static str {
     match refusal {
-        Refusal::ImageBufferShort => "the space for the result is too short",
-        Refusal::ImageNotWellFormed => "the file is no image, or has neither L nor L + 4N bytes",
-        Refusal::ScriptText => {
+        Ok(Refusal::ImageBufferShort) => "the space for the result is too short",
+        Ok(Refusal::ImageNotWellFormed) =>
+            "the file is no image, or has neither L nor L + 4N bytes",
+        Ok(Refusal::ScriptText) => {
             "the script is too long, is cut, has an unknown command, or bytes after END"
         }
-        Refusal::SetOfNoInput => "SET of a signal that is no input",
-        Refusal::WordInTwoRows => "a word lies in two rows",
-        Refusal::WordInNoRow => "a word lies in no row",
-        Refusal::WrongLink => {
+        Ok(Refusal::SetOfNoInput) => "SET of a signal that is no input",
+        Ok(Refusal::WordInTwoRows) => "a word lies in two rows",
+        Ok(Refusal::WordInNoRow) => "a word lies in no row",
+        Ok(Refusal::WrongLink) => {
             "a link that names no IN and signal of two parts, or unequal periods; rows in two parts"
         }
         _ => "a call on a board or its state",
@@ -71,18 +73,23 @@ fn call(refusal: Refusal) -> &'static str {
 }
 
 // 40 to 48: the text form, and which signals depend on an input.
-fn form(refusal: Refusal) -> &'static str {
+fn form(refusal: Result<Refusal, ()>) -> &'static str {
     match refusal {
-        Refusal::UnknownWord => "no such word here",
-        Refusal::OperandMissing => "the text ends where an operand is to follow",
-        Refusal::NoNumber => "no number and no name that can stand here",
-        Refusal::NumberOutside => "a number outside its range",
-        Refusal::TextBufferShort => "the space for the result is too short",
-        Refusal::UnknownByte => "a byte that is no command",
-        Refusal::OperandCut => "the file ends within an operand",
-        Refusal::FormTooLong => "more than 16777216 bytes",
+        Ok(Refusal::UnknownWord) => "no such word here",
+        Ok(Refusal::OperandMissing) => "the text ends where an operand is to follow",
+        Ok(Refusal::NoNumber) => "no number and no name that can stand here",
+        Ok(Refusal::NumberOutside) => "a number outside its range",
+        Ok(Refusal::TextBufferShort) => "the space for the result is too short",
+        Ok(Refusal::UnknownByte) => "a byte that is no command",
+        Ok(Refusal::OperandCut) => "the file ends within an operand",
+        Ok(Refusal::FormTooLong) => "more than 16777216 bytes",
         _ => "the signal is no input",
     }
+}
+
+// What the number of a refusal means.
+pub fn say_meaning(rt: &HostRuntime, number: u8) -> io::Result<()> {
+    eprint!(rt; "{}", Meaning(number))
 }
 
 // The refusal for a script, and the start of what is said of it.
@@ -92,11 +99,8 @@ pub fn refuse(rt: &HostRuntime, fault: Fault) -> io::Result<()> {
 }
 
 pub fn say_refusal(rt: &HostRuntime, fault: Fault) -> io::Result<()> {
-    eprint!(rt; "refused by {}", fault.number)?;
-    if let Ok(refusal) = Refusal::try_from(fault.number) {
-        eprint!(rt; ": {}", Meaning(refusal))?;
-    }
-    Ok(())
+    eprint!(rt; "refused by {}: ", fault.number)?;
+    say_meaning(rt, fault.number)
 }
 
 // The command of `width` bytes at `place` in words, where there is one.
@@ -108,7 +112,7 @@ fn words_of<'a>(bytes: &[u8], place: usize, width: usize, text: &'a mut [u8]) ->
 }
 
 // Where: the offset in a file, and the command that stands there, of at most 13 bytes.
-fn say_offset(rt: &HostRuntime, place: usize, bytes: &[u8]) -> io::Result<()> {
+pub fn say_offset(rt: &HostRuntime, place: usize, bytes: &[u8]) -> io::Result<()> {
     eprint!(rt; " {place}")?;
     let mut text = [0u8; 4096];
     for width in 1..14 {

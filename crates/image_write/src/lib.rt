@@ -283,45 +283,42 @@ pub fn lay_out_code(
 }
 
 // Lays the image out. The text is not read again: the tables have the length of the code.
-pub fn lay_out(pair: PairTables) -> Layout
-    requires { (text reads : List ℕ) × Arrangement text reads pair }
-    ensures { (text reads : List ℕ) (p : Program) (s : Schedule) → Arranged text reads pair p s →
-        LaidOut p s pair.hypercycle result }
+pub fn lay_out(pair: &PairTables) -> Layout
+    requires { (text reads : List ℕ) × Arrangement text reads pair.now }
+    ensures { (text reads : List ℕ) (p : Program) (s : Schedule) → Arranged text reads pair.now p s →
+        LaidOut p s pair.now.hypercycle result }
 {
-    let tables = pair.tables;
-    let slots = pair.slots;
-    let periods = tables.periods;
-    let order = slots.order;
-    let phases = slots.phases;
+    let tables = &pair.tables;
+    let periods = &tables.periods;
+    let order = &pair.slots.order;
+    let phases = &pair.slots.phases;
     let n = tables.signals;
-    let codes = tables.codes;
+    let codes = &tables.codes;
     let size = basics::from_entry(codes[n]);
     let h = pair.hypercycle;
-    lay_out_code(size, tables.rows, &periods, &order, &phases, n, h)
+    lay_out_code(size, tables.rows, periods, order, phases, n, h)
 }
 
 // Writes the image, laid out as `layout` says, into the first L bytes, and its tail after it.
-pub fn emit(text: &[u8], pair: PairTables, layout: Layout, out: &mut [u8])
-    requires { Fits text.now pair layout (length out.old) }
-    ensures { (reads : List ℕ) (p : Program) (s : Schedule) → Arranged text.now reads pair p s →
-        out.new ≡ written_of p s pair.hypercycle ++ drop layout.written out.old }
+pub fn emit(text: &[u8], pair: &PairTables, layout: Layout, out: &mut [u8])
+    requires { Fits text.now pair.now layout (length out.old) }
+    ensures { (reads : List ℕ) (p : Program) (s : Schedule) → Arranged text.now reads pair.now p s →
+        out.new ≡ written_of p s pair.now.hypercycle ++ drop layout.written out.old }
 {
-    let tables = pair.tables;
-    let slots = pair.slots;
-    let periods = tables.periods;
-    let order = slots.order;
-    let phases = slots.phases;
+    let tables = &pair.tables;
+    let periods = &tables.periods;
+    let order = &pair.slots.order;
+    let phases = &pair.slots.phases;
+    let places = &tables.places;
     let h = pair.hypercycle;
     let n = tables.signals;
-    let places = tables.places;
-    let code_starts = tables.codes;
     let records = put_head(h, n, layout.end, out);
-    let offsets = emit_records(text, &places, n, &code_starts, layout.code, out, records);
+    let offsets = emit_records(text, places, n, &tables.codes, layout.code, out, records);
     let mut nexts: [u16; 241] = [0; 241];
     let lists = emit_offsets(
-        &periods,
-        &order,
-        &phases,
+        periods,
+        order,
+        phases,
         n,
         h,
         layout.lists,
@@ -329,12 +326,10 @@ pub fn emit(text: &[u8], pair: PairTables, layout: Layout, out: &mut [u8])
         out,
         offsets,
     );
-    let table = emit_lists(&periods, &order, &phases, n, h, &mut nexts, out, lists);
-    let row_offsets = tables.offsets;
-    let codes = emit_table(text, &row_offsets, tables.rows, out, table);
-    emit_codes(text, &places, n, out, codes);
-    let labels = tables.labels;
-    emit_tail(&labels, &periods, &phases, n, out, layout.end);
+    let table = emit_lists(periods, order, phases, n, h, &mut nexts, out, lists);
+    let codes = emit_table(text, &tables.offsets, tables.rows, out, table);
+    emit_codes(text, places, n, out, codes);
+    emit_tail(&tables.labels, periods, phases, n, out, layout.end);
 }
 
 // Writes the entry of a signal in the tail.

@@ -29,11 +29,14 @@ fn has_room(loads: &[u32; 240], limit: u32, period: u8, weight: u16, phase: usiz
 {
     let step = basics::from_byte(period);
     let most = limit as u64;
-    for next in (phase..h).step_by(step) {
+    let mut next = phase;
+    // a `while`: tried `for` by `step_by`, 1.3 to 1.6 times as slow over all phases of a pair
+    while next < h {
         let load = load_with(loads[next], weight);
         if most < load {
             return false;
         }
+        next += step;
     }
     true
 }
@@ -236,7 +239,8 @@ fn moves_with(
         (moves_of program.now schedule.now list.old)
         (yielded_of result) list.new }
 {
-    let pair = check_pair::check_with(program, schedule, reads)?;
+    let mut pair = PairTables::new();
+    check_pair::check_tables(program, schedule, reads, &mut pair)?;
     Ok(list_moves(program, reads, pair, list))
 }
 

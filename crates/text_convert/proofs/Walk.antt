@@ -4,13 +4,12 @@ use Prim.Native.Nat.{ℕ, zero, suc, ◌+◌, ◌-◌, ◌≤◌, ◌<◌}
 use mathlib.Core.Bool.{Bool, true, false, cond}
 use mathlib.Core.List.{List, [], ◌∷◌, ◌++◌}
 use mathlib.Core.Path.{◌≡◌, refl, sym, ap, ◌∙◌}
+use native.Mathlib.Numerals.{add-one}
 use native.Mathlib.Omega.{arith}
 use borrow.Author.Tests.{le-leb, lt-leb}
 use lib.Dec.{eqb}
-use lib.ListN.{length, take, drop, length-drop}
-use lib.Seq.{length-take-le, sets-eq, take_all}
-use borrow.Rule.Slice.PartMut.{put_mid}
-use Rattle.std.proofs.lemmas.Slice.{put_mid-paste}
+use lib.ListN.{length, get_or, take, drop, length-drop}
+use lib.Seq.{drop-cons, length-take-le, sets-eq}
 use Rattle.model.specs.Rules.Command.{is_operator, declaration_at, operator_at}
 use Rattle.model.specs.Rules.Rewrite.{single_kind}
 use Rattle.model.specs.Rules.Outcome.{Outcome, accepted, refused, refuse, ◌▷◌, provided}
@@ -46,17 +45,20 @@ use Rattle.text_program.specs.declared.Tables.{Tables}
 use Rattle.text_convert.specs.Pieces.{width_in, new_length, bytes_in, operator_piece, piece_of, piece_at}
 use Rattle.text_convert.specs.declared.Piece.{Piece}
 
--- Bytes that are copied.
-pub copied : (out bytes part : List ℕ) (to n k : ℕ) → part ≡ bytes → length bytes ≡ n → k ≡ n → to + n ≤ length out →
-    Wrote out to bytes (put_mid to k out part) (to + n)
-copied out bytes part to n k e size same fits =
-    record {
-      holds =
-          put_mid-paste to k out part bytes (length bytes) e (omega arith) refl ∙
-          ap (λ (l : List ℕ). (take to out ++ l) ++ drop (to + length bytes) out)
-          (take_all (length bytes) bytes (omega arith)) ∙ sym (sets-eq bytes out to (omega arith));
-      ends = omega arith;
-    }
+-- Bytes that are copied one by one.
+pub copy_step : (text : List ℕ) (i left : ℕ) → 0 < left → i + left ≤ length text →
+    Parts (take left (drop i text)) (get_or text i 0 ∷ []) (take (left - 1) (drop (i + 1) text))
+copy_step text i zero lt le = absurd (omega arith)
+copy_step text i (suc left) lt le =
+    let e : suc left - 1 ≡ left = omega arith in
+    record { is = rw (e, add-one, drop-cons text i 0 (omega arith)) }
+
+pub copy-fits : (text : List ℕ) (at n to m : ℕ) → at + n ≤ length text → to + n ≤ m → to + length (take n (drop at text)) ≤ m
+copy-fits text at n to m le fits = rw (length-take-le n (drop at text) (omega (arith, length-drop at text))) fits
+
+pub take_none : (n : ℕ) (l : List ℕ) → n ≤ 0 → take n l ≡ []
+take_none zero l le = refl
+take_none (suc n) l le = absurd (omega arith)
 
 -- The piece of a command is what the definition says.
 operator-width : (o : Operator) → width_in (operator_piece o) ≡ operator_width o

@@ -116,8 +116,12 @@ fn copy(text: &[u8], at: usize, n: usize, out: &mut [u8], to: usize) -> usize
     requires { (at + n ≤ length text.now) × (to + n ≤ length out.old) }
     ensures { Wrote out.old to (take n (drop at text.now)) out.new result }
 {
-    let end = to + n;
-    out[to..end].copy_from_slice(&text[at..at + n]);
+    let mut end = to;
+    // byte by byte: by `copy_from_slice` the library for C would need `memmove` from outside
+    for i in at..at + n {
+        out[end] = text[i];
+        end += 1;
+    }
     end
 }
 

@@ -231,3 +231,8 @@ pub record SlotsOf (p : Program) (s : Schedule) (order phases ranks : List ℕ) 
 unfoldable pub ProgramReads : Outcome Program → List ℕ → Result Tables Fault → Type 0
 ProgramReads (accepted p) reads r = (t : Tables) × (r ≡ Ok t) × TablesOf p t × ReadsOf p reads t.firsts
 ProgramReads (refused f) reads r = r ≡ Err f
+
+-- The answer of a function that fills what is lent, with what it then holds.
+abbrev pub filled : {A : Type 0} → A → Result (Unit {0}) Fault → Result A Fault
+filled a (Ok done) = Ok a
+filled a (Err f) = Err f

@@ -10,7 +10,7 @@ ghost use Rattle.model.specs.Rules.Width.{in_program, in_code};
 ghost use Rattle.basics.specs.Judgement.{judgement_of};
 ghost use Rattle.text_program.specs.Results.{links_of, chain_of, tag_of, end_of};
 ghost use Rattle.text_program.specs.Steps.{label_after, Counts, Stepped};
-ghost use Rattle.text_program.specs.Tables.{signal_added, chain_added, row_added, EntryFits, with_entry, Unread, ProgramReads};
+ghost use Rattle.text_program.specs.Tables.{signal_added, chain_added, row_added, EntryFits, with_entry, Unread, filled, ProgramReads};
 ghost use Rattle.text_program.specs.Walks.{deep_of, outlines, leaf_of, WalkRoom, LeafRoom, Walks, WalksEquation};
 
 use model::{Declaration, Fault, Operator, Refusal};
@@ -458,13 +458,18 @@ fn read_command(
     }
 }
 
-// Reads a program text whose factors go from `least` on to its END: 2 to 6, or the tables of the program that it is. Keeps the
-// offset of each read in `reads`, which has an entry for each two bytes of the text.
-pub fn read_program(least: u8, text: &[u8], reads: &mut [u16]) -> Result<Tables, Fault>
-    requires { (length text.now ≤ 8192) × (length text.now ≤ 2 * length reads.old) }
-    ensures { ProgramReads (parse_with least text.now) reads.new result }
+// Reads a program text whose factors go from `least` on to its END: 2 to 6, or fills new tables with those of the program that it
+// is. They are lent, for they are too large to be handed out through every `?`. Keeps the offset of each read in `reads`, which has
+// an entry for each two bytes of the text.
+pub fn read_tables(
+    least: u8,
+    text: &[u8],
+    reads: &mut [u16],
+    tables: &mut Tables,
+) -> Result<(), Fault>
+    requires { (length text.now ≤ 8192) × (length text.now ≤ 2 * length reads.old) × Unread tables.old }
+    ensures { ProgramReads (parse_with least text.now) reads.new (filled tables.new result) }
 {
-    let mut tables = Tables::new();
     let mut label: u16 = 0;
     let mut walk = Walk {
         at: 0,
@@ -474,12 +479,22 @@ pub fn read_program(least: u8, text: &[u8], reads: &mut [u16]) -> Result<Tables,
     };
     // a `while`: it goes on by what a declaration takes
     while walk.at < text.len() {
-        let step = read_command(least, text, walk, &tables, reads)?;
+        let step = read_command(least, text, walk, tables, reads)?;
         let Step::Adds(entry, next) = step else {
-            return Ok(tables);
+            return Ok(());
         };
         label = tables.add(entry, walk.at, label, next);
         walk = next;
     }
     basics::refuse(Refusal::ProgramEndsEarly, text.len())
+}
+
+// The same, the tables handed out.
+pub fn read_program(least: u8, text: &[u8], reads: &mut [u16]) -> Result<Tables, Fault>
+    requires { (length text.now ≤ 8192) × (length text.now ≤ 2 * length reads.old) }
+    ensures { ProgramReads (parse_with least text.now) reads.new result }
+{
+    let mut tables = Tables::new();
+    read_tables(least, text, reads, &mut tables)?;
+    Ok(tables)
 }

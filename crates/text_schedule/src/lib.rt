@@ -6,7 +6,7 @@ ghost use Rattle.model.specs.Rules.Outcome.{Parsed, accepted};
 ghost use Rattle.model.specs.Rules.Program.{Program, count};
 ghost use Rattle.model.specs.Rules.Schedule.{Put, parse_schedule};
 ghost use Rattle.basics.specs.Judgement.{Answers};
-ghost use Rattle.text_program.specs.Tables.{PeriodsOf};
+ghost use Rattle.text_program.specs.Tables.{PeriodsOf, Unread};
 ghost use Rattle.text_schedule.specs.Slots.{end_judged, all_ranked, PutJudged, Scheduled};
 ghost use Rattle.text_schedule.specs.declared.Slots.{Slots};
 
@@ -64,6 +64,23 @@ pub struct PairTables {
     pub tables: Tables,
     pub slots: Slots,
     pub hypercycle: usize,
+}
+
+impl PairTables {
+    pub fn new() -> Self
+        ensures { Unread result.tables }
+    {
+        Self {
+            tables: Tables::new(),
+            slots: Slots {
+                puts: 0,
+                order: [0; 64],
+                phases: [0; 64],
+                ranks: [0; 64],
+            },
+            hypercycle: 0,
+        }
+    }
 }
 
 // One PUT, after those that have a rank: 12 and 13.

@@ -3,13 +3,16 @@
 // is made by `trial_prepare` and `trial_step`; here it is read and written.
 #![tactic(auto)]
 
+ghost use Rattle.std.specs.Prelude.{◌≤◌, length, IfOk};
 ghost use Rattle.trial_step.specs.Underway.{at_start, Underway};
 
 use model::{Fault, Refusal};
 use std::io;
 
 // Reads the file that argument i names to the start of the space; one that is missing or can't be opened counts as empty.
-fn read_file<'a>(rt: &HostRuntime, i: usize, space: &'a mut [u8]) -> io::Result<&'a [u8]> {
+fn read_file<'a>(rt: &HostRuntime, i: usize, space: &'a mut [u8]) -> io::Result<&'a [u8]>
+    ensures { IfOk result (λ s. length s.now ≤ length space.old) }
+{
     let mut path = [0u8; 4096];
     let Some(name) = console::argument(rt, i, &mut path) else {
         return Ok(&[]);

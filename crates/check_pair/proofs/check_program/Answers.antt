@@ -13,17 +13,17 @@ use Rattle.check_pair.proofs.check_program.Goals as goal
 use Rattle.check_pair.proofs.check_program.Goals.{In_ok-check_rates, In_ok-hypercycle, In_ok-check_links}
 
 -- where 7 and 8 are passed, 9, and 10
-rated : (e : In_ok-check_rates) (p : Program) → Stands e.args.text.now e.args.reads.now e.args.tables p →
+rated : (e : In_ok-check_rates) (p : Program) → Stands e.args.text.now e.args.reads.now e.args.tables.now p →
     declared_and_rated p ≡ accepted tt
 rated e p s = judgement-fine _ _ (e.check_rates.ensures p s) e.in_ok-check_rates.was
 
-common : (e : In_ok-hypercycle) (p : Program) → Stands e.args.text.now e.args.reads.now e.args.tables p →
+common : (e : In_ok-hypercycle) (p : Program) → Stands e.args.text.now e.args.reads.now e.args.tables.now p →
     hypercycle p ≡ accepted e.in_ok-hypercycle.hypercycle
 common e p s =
     let t = s.tables-are in
     sym (e.check_hypercycle.ensures p t.counts.signals-are t.periods) ∙ ap yielded_of e.in_ok-hypercycle.was
 
-joined : (e : In_ok-check_links) (p : Program) → Stands e.args.text.now e.args.reads.now e.args.tables p → linked p ≡ accepted tt
+joined : (e : In_ok-check_links) (p : Program) → Stands e.args.text.now e.args.reads.now e.args.tables.now p → linked p ≡ accepted tt
 joined e p s = judgement-fine _ _ (e.check_links.ensures p s) e.in_ok-check_links.was
 
 pub check_hypercycle-requires : goal.check_hypercycle-requires

@@ -37,19 +37,19 @@ use Rattle.image_write.proofs.emit.Goals.{After-emit_codes, After-emit_lists-tab
 -- the parts of the image, by the tables
 module _ (s : Start) where
   abbrev h : ℕ
-  h = s.args.pair.hypercycle
+  h = s.args.pair.now.hypercycle
 
   abbrev count : ℕ
-  count = s.args.pair.tables.signals
+  count = s.args.pair.now.tables.signals
 
   abbrev lists : List (List ℕ)
-  lists = lists_by s.args.pair.tables.periods s.args.pair.slots.order s.args.pair.slots.phases count h
+  lists = lists_by s.args.pair.now.tables.periods s.args.pair.now.slots.order s.args.pair.now.slots.phases count h
 
   abbrev codes : List (List ℕ)
   codes = codes_from 0 (declared_by s.args.text.now)
 
   abbrev rows : List ℕ
-  rows = table_by s.args.text.now s.args.pair.tables.offsets s.args.pair.tables.rows
+  rows = table_by s.args.text.now s.args.pair.now.tables.offsets s.args.pair.now.tables.rows
 
   abbrev recorded : List ℕ
   recorded = records (declared_by s.args.text.now) (offsets (codes_by h count lists rows) codes)
@@ -65,7 +65,7 @@ module _ (s : Start) where
   Rest out to rest = Left s.args.out.now 0 image out to rest
 
   abbrev arranged :
-      Arranged s.args.text.now s.requires.reads s.args.pair s.requires.arrangement.0 s.requires.arrangement.1
+      Arranged s.args.text.now s.requires.reads s.args.pair.now s.requires.arrangement.0 s.requires.arrangement.1
   arranged = s.requires.arrangement.2
 
   -- the layout, by the tables
@@ -85,7 +85,7 @@ module _ (s : Start) where
   space = omega (arith, image-size arranged, s.requires.laid_out.ends, end-within)
 
   -- where image and tail end, of each pair of which the tables are
-  both_end : {reads : List ℕ} (p : Program) (q : Schedule) → Arranged s.args.text.now reads s.args.pair p q →
+  both_end : {reads : List ℕ} (p : Program) (q : Schedule) → Arranged s.args.text.now reads s.args.pair.now p q →
       (s.args.layout.end ≡ length_of p q h) × (s.args.layout.written ≡ written_length p q h)
   both_end p q e = (
     omega (arith, ends, length-by e),
@@ -208,7 +208,7 @@ module _ (c : After-emit_codes) where
   after-codes : Rest start c.emit_codes.new.out c.emit_codes.result []
   after-codes = turn (last (joined (codes start))) (after_table (goal.at.After-emit_codes c).After-emit_table-codes) c.emit_codes.ensures
 
-  image-left : {reads : List ℕ} (p : Program) (q : Schedule) → Arranged start.args.text.now reads start.args.pair p q →
+  image-left : {reads : List ℕ} (p : Program) (q : Schedule) → Arranged start.args.text.now reads start.args.pair.now p q →
       c.emit_codes.new.out ≡ image_of p q (h start) ++ drop (length_of p q (h start)) start.args.out.now
   image-left p q e =
       image-written e (omega (arith, (both_end start p q e).0, end-within start)) (done refl after-codes)

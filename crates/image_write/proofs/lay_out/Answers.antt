@@ -1,5 +1,4 @@
 -- `image_write::lay_out` meets its contract. Assumes nothing.
-use Prim.Native.Nat.{◌≤◌}
 use mathlib.Core.Path.{sym, ◌∙◌}
 use native.Mathlib.Omega.{arith}
 use Rattle.text_schedule.proofs.Arranged.{short-hypercycle}
@@ -16,11 +15,6 @@ use Rattle.image_write.proofs.Imaged.{
   length-by,
 }
 use Rattle.image_write.proofs.lay_out.Goals as goal
-use Rattle.image_write.proofs.lay_out.Goals.{After-codes-1}
-
--- what the tables say
-few : (c : After-codes-1) → c.args.pair.tables.signals ≤ 64
-few c = (declared c.requires.2.2).few
 
 pub lay_out_code-requires : goal.lay_out_code-requires
 lay_out_code-requires c =

@@ -69,12 +69,10 @@ offset_bounds-loads-next c = omega (arith, c.loop-next-test.true, c.requires.1)
 pub bounds-loads-next : goal.bounds-loads-next
 bounds-loads-next c = omega (arith, c.loop-next-test.true, c.requires.1)
 
-pub returns-else-most-load : goal.returns-else-most-load
-returns-else-most-load c =
-    let l = c.loop-next in
-    let a = c.args in
-    let r = rate a.period a.phase in
-    let next = passed r c.requires.0 a.loads.now a.limit a.weight l.next (l.next + a.period) refl l.invariant.0 l.invariant.1
-    (le-ltb a.limit (get_or a.loads.now l.next 0 + a.weight)
-    (omega (arith, c.if-most-load.false, c.load_with-load.ensures))) in
-    (λ e k lt d. next k (omega (arith, c.from_byte-step.ensures.0)) d, λ e. refl)
+pub overflow_add-next : goal.overflow_add-next
+overflow_add-next c = let t = c in
+    omega (arith, t.loop-next-test.true, t.requires.1, t.from_byte-step.ensures.1)
+
+pub loop-next-smaller : goal.loop-next-smaller
+loop-next-smaller c = let t = c in
+    omega (arith, t.loop-next-test.true, t.requires.0, t.from_byte-step.ensures.0)

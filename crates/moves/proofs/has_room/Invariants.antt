@@ -20,3 +20,6 @@ abbrev pub invariant-loop-next : goal.invariant-loop-next
 invariant-loop-next l =
     (due (rate l.period l.phase) l.next ≡ true) ×
     ((c : ℕ) → c < l.next → due (rate l.period l.phase) c ≡ true → ltb l.limit (get_or l.loads c 0 + l.weight) ≡ false)
+
+abbrev pub decreases-loop-next : goal.decreases-loop-next
+decreases-loop-next l = l.h - l.next

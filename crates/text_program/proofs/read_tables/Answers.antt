@@ -1,4 +1,4 @@
--- `text_program::read_program` meets its contract. Assumes nothing.
+-- `text_program::read_tables` meets its contract. Assumes nothing.
 use Prim.Native.Nat.{ℕ}
 use mathlib.Core.List.{List}
 use mathlib.Core.Path.{◌≡◌, refl, sym, ap, subst, ◌∙◌}
@@ -7,6 +7,7 @@ use Rattle.std.specs.Prelude.{Result, Ok}
 use Rattle.std.proofs.lemmas.Result.{err_from_is_err_and}
 use Rattle.model.specs.declared.Fault.{Fault}
 use Rattle.text_program.specs.Steps.{Added, Stepped}
+use Rattle.text_program.specs.Tables.{filled}
 use Rattle.text_program.specs.declared.Step.{Step}
 use Rattle.text_program.specs.declared.Walk.{Walk}
 use Rattle.text_program.proofs.Tabled.{
@@ -20,8 +21,8 @@ use Rattle.text_program.proofs.Tabled.{
   program-ends,
   starts-empty,
 }
-use Rattle.text_program.proofs.read_program.Goals as goal
-use Rattle.text_program.proofs.read_program.Goals.{After-read_command, At-loop-walk, In-Adds}
+use Rattle.text_program.proofs.read_tables.Goals as goal
+use Rattle.text_program.proofs.read_tables.Goals.{After-read_command, At-loop-walk, In-Adds}
 
 -- where a command is read
 module _ (c : After-read_command) where
@@ -65,7 +66,7 @@ module _ (c : In-Adds) where
 
 pub loop-walk-init : goal.loop-walk-init
 loop-walk-init c =
-    let u = c.new-tables.ensures in
+    let u = c.requires.2 in
     (refl, sym u.no-lookups, starts-empty _ _ _ _ c.requires.0 c.requires.1 u)
 
 pub add-label-requires : goal.add-label-requires
@@ -101,4 +102,5 @@ returns-in_default c =
     program-done (reading k) c.loop-walk-test.true _ (stepped k (c.in_ok-step.was ∙ ap Ok c.in_default.is))
 
 pub returns : goal.returns
-returns c = program-ends c.loop-walk.invariant.2 c.loop-walk-test.false _ _ c.refuse.ensures
+returns c =
+    program-ends c.loop-walk.invariant.2 c.loop-walk-test.false _ _ (ap (filled c.loop-walk.tables) c.refuse.ensures)

@@ -1,4 +1,4 @@
--- `check_pair::check_with` meets its contract. Assumes nothing.
+-- `check_pair::check_tables` meets its contract. Assumes nothing.
 use Rattle.std.specs.Prelude.{Result}
 use Prim.Native.Nat.{ℕ, ◌≤◌}
 use mathlib.Core.List.{List}
@@ -23,7 +23,7 @@ use Rattle.basics.proofs.Judgements.{
   answers-accepted,
   handed-on,
 }
-use Rattle.text_program.specs.Tables.{Stands}
+use Rattle.text_program.specs.Tables.{Stands, filled}
 use Rattle.text_program.specs.declared.Tables.{Tables}
 use Rattle.text_program.proofs.ByIndex.{few-signals}
 use Rattle.text_schedule.specs.Arranged.{Arranged}
@@ -39,10 +39,10 @@ use Rattle.check_pair.proofs.Verdicts.{
   short-schedule,
   pair-steps,
 }
-use Rattle.check_pair.proofs.check_with.Goals as goal
-use Rattle.check_pair.proofs.check_with.Goals.{
+use Rattle.check_pair.proofs.check_tables.Goals as goal
+use Rattle.check_pair.proofs.check_tables.Goals.{
   In_ok-check_lengths,
-  In_ok-tables,
+  In_ok-read_tables,
   In_ok-hypercycle,
   In_ok-slots,
   In_ok-check_reads,
@@ -54,26 +54,26 @@ use Rattle.check_pair.proofs.check_with.Goals.{
 short : (e : In_ok-check_lengths) → short_enough e.args.program.now e.args.schedule.now ≡ accepted tt
 short e = judgement-fine _ _ e.check_lengths.ensures e.in_ok-check_lengths.was
 
-read : (e : In_ok-tables) → (p : Program) × (parse_program e.args.program.now ≡ accepted p) ×
-    Stands e.args.program.now e.read_program.new.reads e.in_ok-tables.tables p
-read e = program-read _ _ _ _ e.read_program.ensures e.in_ok-tables.was
+read : (e : In_ok-read_tables) → (p : Program) × (parse_program e.args.program.now ≡ accepted p) ×
+    Stands e.args.program.now e.read_tables.new.reads e.read_tables.new.tables p
+read e = program-read _ _ _ _ e.read_tables.ensures (ap (filled _) e.in_ok-read_tables.was)
 
-rated : (e : In_ok-hypercycle) → let p = (read (goal.at.In_ok-hypercycle e).In_ok-tables).0 in
+rated : (e : In_ok-hypercycle) → let p = (read (goal.at.In_ok-hypercycle e).In_ok-read_tables).0 in
     rates_of p ≡ accepted e.in_ok-hypercycle.hypercycle
 rated e =
-    let g = read (goal.at.In_ok-hypercycle e).In_ok-tables in
+    let g = read (goal.at.In_ok-hypercycle e).In_ok-read_tables in
     sym (e.check_program.ensures g.0 g.2) ∙ ap yielded_of e.in_ok-hypercycle.was
 
-scheduled : (d : After-check_puts) → let p = (read (goal.at.After-check_puts d).In_ok-tables).0 in
+scheduled : (d : After-check_puts) → let p = (read (goal.at.After-check_puts d).In_ok-read_tables).0 in
     ScheduledAs p (schedule_for p d.args.schedule.now) d.check_puts.result
 scheduled d =
-    let g = read (goal.at.After-check_puts d).In_ok-tables in
+    let g = read (goal.at.After-check_puts d).In_ok-read_tables in
     d.check_puts.ensures g.0 g.2.tables-are.counts.signals-are g.2.tables-are.periods
 
 -- where the schedule is placed
 module _ (e : In_ok-slots) where
-  abbrev text : In_ok-tables
-  text = (goal.at.In_ok-slots e).In_ok-tables
+  abbrev text : In_ok-read_tables
+  text = (goal.at.In_ok-slots e).In_ok-read_tables
 
   abbrev found : In_ok-hypercycle
   found = (goal.at.In_ok-slots e).In_ok-hypercycle
@@ -84,13 +84,13 @@ module _ (e : In_ok-slots) where
   abbrev pair : PairTables
   pair =
       record {
-        tables = e.in_ok-tables.tables;
+        tables = e.read_tables.new.tables;
         slots = e.in_ok-slots.slots;
         hypercycle = e.in_ok-hypercycle.hypercycle;
       }
 
   arranged : (s : Schedule) × (schedule_for program e.args.schedule.now ≡ accepted s) ×
-      Arranged e.args.program.now e.read_program.new.reads pair program s
+      Arranged e.args.program.now e.read_tables.new.reads pair program s
   arranged =
       let r = rates-passed _ _ (rated found) in
       let a = answers-ok _ _ _ _ (scheduled (goal.at.In_ok-slots e).After-check_puts) e.in_ok-slots.was in
@@ -123,7 +123,7 @@ module _ (e : In_ok-slots) where
   unfolding steps_of
   passed Q r w =
       rw (pair-steps _ _)
-      (answers-then _ _ _ _ _ (short (goal.at.In_ok-tables text).In_ok-check_lengths)
+      (answers-then _ _ _ _ _ (short (goal.at.In_ok-read_tables text).In_ok-check_lengths)
       (answers-then _ _ _ _ _ (read text).1
       (answers-then _ _ _ _ _ (rated found)
       (answers-then _ _ _ _ _ arranged.1 w))))
@@ -138,19 +138,19 @@ loads-fit : (f : In_ok-check_load) → let e = (goal.at.In_ok-check_load f).In_o
 loads-fit f =
     judgement-fine _ _ (f.check_load.ensures _ _ _ _ (arranged (goal.at.In_ok-check_load f).In_ok-slots).2) f.in_ok-check_load.was
 
-pub read_program-requires : goal.read_program-requires
-read_program-requires c =
-    let l = short-program _ _ (short (goal.at.read_program-requires c).In_ok-check_lengths) in
-    (l, c.requires l)
+pub read_tables-requires : goal.read_tables-requires
+read_tables-requires c =
+    let l = short-program _ _ (short (goal.at.read_tables-requires c).In_ok-check_lengths) in
+    (l, c.requires.0 l, c.requires.1)
 
 pub check_program-requires : goal.check_program-requires
-check_program-requires c = let g = read (goal.at.check_program-requires c).In_ok-tables in (g.0, g.2)
+check_program-requires c = let g = read (goal.at.check_program-requires c).In_ok-read_tables in (g.0, g.2)
 
 pub check_puts-requires : goal.check_puts-requires
 check_puts-requires c =
-    let x = (goal.at.check_puts-requires c).In_ok-tables in
+    let x = (goal.at.check_puts-requires c).In_ok-read_tables in
     let g = (read x).2 in
-    (few-signals _ _ _ g.declares g.tables-are, short-schedule _ _ (short (goal.at.In_ok-tables x).In_ok-check_lengths))
+    (few-signals _ _ _ g.declares g.tables-are, short-schedule _ _ (short (goal.at.In_ok-read_tables x).In_ok-check_lengths))
 
 pub check_reads-requires : goal.check_reads-requires
 check_reads-requires c = let e = (goal.at.check_reads-requires c).In_ok-slots in (program e, schedule e, (arranged e).2)
@@ -169,45 +169,45 @@ unfolding steps_of
 returns-in_err-check_lengths c =
     rw (pair-steps _ _)
     (answers-stop _ _ _ _ _ (judgement-refused _ _ _ c.check_lengths.ensures c.in_err-check_lengths.was)
-    (handed-on _ c.from_residual.ensures.1))
+    (ap (filled _) (handed-on _ c.from_residual.ensures.1)))
 
-pub returns-in_err-tables : goal.returns-in_err-tables
+pub returns-in_err-read_tables : goal.returns-in_err-read_tables
 unfolding steps_of
-returns-in_err-tables c =
+returns-in_err-read_tables c =
     rw (pair-steps _ _)
-    (answers-then _ _ _ _ _ (short (goal.at.returns-in_err-tables c).In_ok-check_lengths)
-    (answers-stop _ _ _ _ _ (answers-refused _ _ _ _ (program-answers _ _ _ c.read_program.ensures) c.in_err-tables.was)
-    (handed-on _ c.from_residual-in_err-tables.ensures.1)))
+    (answers-then _ _ _ _ _ (short (goal.at.returns-in_err-read_tables c).In_ok-check_lengths)
+    (answers-stop _ _ _ _ _ (answers-refused _ _ _ _ (program-answers _ _ _ c.read_tables.ensures) (ap (filled _) c.in_err-read_tables.was))
+    (ap (filled _) (handed-on _ c.from_residual-in_err-read_tables.ensures.1))))
 
 pub returns-in_err-hypercycle : goal.returns-in_err-hypercycle
 unfolding steps_of
 returns-in_err-hypercycle c =
-    let x = (goal.at.returns-in_err-hypercycle c).In_ok-tables in
+    let x = (goal.at.returns-in_err-hypercycle c).In_ok-read_tables in
     let g = read x in
     rw (pair-steps _ _)
-    (answers-then _ _ _ _ _ (short (goal.at.In_ok-tables x).In_ok-check_lengths)
+    (answers-then _ _ _ _ _ (short (goal.at.In_ok-read_tables x).In_ok-check_lengths)
     (answers-then _ _ _ _ _ g.1
     (answers-stop _ _ _ _ _ (sym (c.check_program.ensures g.0 g.2) ∙ ap yielded_of c.in_err-hypercycle.was)
-    (handed-on _ c.from_residual-in_err-hypercycle.ensures.1))))
+    (ap (filled _) (handed-on _ c.from_residual-in_err-hypercycle.ensures.1)))))
 
 pub returns-in_err-slots : goal.returns-in_err-slots
 unfolding steps_of
 returns-in_err-slots c =
-    let x = (goal.at.returns-in_err-slots c).In_ok-tables in
+    let x = (goal.at.returns-in_err-slots c).In_ok-read_tables in
     rw (pair-steps _ _)
-    (answers-then _ _ _ _ _ (short (goal.at.In_ok-tables x).In_ok-check_lengths)
+    (answers-then _ _ _ _ _ (short (goal.at.In_ok-read_tables x).In_ok-check_lengths)
     (answers-then _ _ _ _ _ (read x).1
     (answers-then _ _ _ _ _ (rated (goal.at.returns-in_err-slots c).In_ok-hypercycle)
     (answers-stop _ _ _ _ _
     (answers-refused _ _ _ _ (scheduled (goal.at.returns-in_err-slots c).After-check_puts) c.in_err-slots.was)
-    (handed-on _ c.from_residual-in_err-slots.ensures.1)))))
+    (ap (filled _) (handed-on _ c.from_residual-in_err-slots.ensures.1))))))
 
 pub returns-in_err-check_reads : goal.returns-in_err-check_reads
 returns-in_err-check_reads c =
     let e = (goal.at.returns-in_err-check_reads c).In_ok-slots in
     passed e _ _
     (answers-stop _ _ _ _ _ (judgement-refused _ _ _ (c.check_reads.ensures _ _ (arranged e).2) c.in_err-check_reads.was)
-    (handed-on _ c.from_residual-in_err-check_reads.ensures.1))
+    (ap (filled _) (handed-on _ c.from_residual-in_err-check_reads.ensures.1)))
 
 pub returns-in_err-check_load : goal.returns-in_err-check_load
 returns-in_err-check_load c =
@@ -215,7 +215,7 @@ returns-in_err-check_load c =
     passed e _ _
     (answers-then _ _ _ _ _ (reads-met (goal.at.returns-in_err-check_load c).In_ok-check_reads)
     (answers-stop _ _ _ _ _ (judgement-refused _ _ _ (c.check_load.ensures _ _ _ _ (arranged e).2) c.in_err-check_load.was)
-    (handed-on _ c.from_residual-in_err-check_load.ensures.1)))
+    (ap (filled _) (handed-on _ c.from_residual-in_err-check_load.ensures.1))))
 
 pub returns-in_err-check_latency : goal.returns-in_err-check_latency
 returns-in_err-check_latency c =
@@ -226,7 +226,7 @@ returns-in_err-check_latency c =
     (answers-then _ _ _ _ _ (loads-fit (goal.at.returns-in_err-check_latency c).In_ok-check_load)
     (answers-stop _ _ _ _ _
     (judgement-refused _ _ _ (c.check_latency.ensures _ _ (arranged e).2 m) c.in_err-check_latency.was)
-    (handed-on _ c.from_residual-in_err-check_latency.ensures.1))))
+    (ap (filled _) (handed-on _ c.from_residual-in_err-check_latency.ensures.1)))))
 
 pub returns : goal.returns
 returns c =

@@ -1,9 +1,9 @@
--- `text_program::read_program` meets its contract. Assumes nothing.
+-- `text_program::read_tables` meets its contract. Assumes nothing.
 use Prim.Native.Nat.{◌-◌}
 use mathlib.Core.Path.{◌≡◌}
 use lib.ListN.{length}
 use Rattle.text_program.proofs.Tabled.{Reading}
-use Rattle.text_program.proofs.read_program.Given as goal
+use Rattle.text_program.proofs.read_tables.Given as goal
 
 abbrev pub invariant-loop-walk : goal.invariant-loop-walk
 invariant-loop-walk l =
